@@ -1,0 +1,17 @@
+pub mod Integers
+pub mod Syntax
+pub mod Substitution
+pub mod Tree
+pub mod Arithmetic
+pub mod Arithmetics
+pub mod World
+pub mod Rules
+pub mod Plans
+pub mod Facts
+pub mod Closed
+pub mod Positions
+pub mod Refutation
+pub mod Theorems
+pub mod Terms
+pub mod Examples
+pub mod Mistakes

@@ -1,0 +1,4 @@
+pub mod Sameness
+pub mod Keeping
+pub mod Contents
+pub mod Theorems
