@@ -15,3 +15,4 @@ pub mod Theorems
 pub mod Terms
 pub mod Examples
 pub mod Mistakes
+pub mod Shown

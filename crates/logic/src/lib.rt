@@ -1,6 +1,8 @@
 // The theorems of the load check's logic: each function's contract is one of them.
+ghost use mathlib.Core.Path.{_≡_};
 ghost use Rattle.logic.specs.Examples.{Examples-come-out};
 ghost use Rattle.logic.specs.Mistakes.{Bounds-over-counts-do-not-add, Unraised-substitution-is-wrong, Shared-Skolem-symbol-is-wrong};
+ghost use Rattle.logic.specs.Shown.{shown-examples};
 ghost use Rattle.logic.specs.Theorems.{Substitution-commutes-with-truth, Conclusions-hold, Facts-hold, Plans-hold-after-rereading, Refuted-holds-nowhere, Functions-are-the-rules, Proofs-fit-where-each-part-fits, Closedness-is-kept, Arithmetics-are-lawful, Trees-stand-for-terms};
 
 // φ[t] is true where φ is true of the value of t.
@@ -99,4 +101,25 @@ pub fn shared_skolem_symbol_is_wrong() -> u8
     ensures { λ _. ⌜ Shared-Skolem-symbol-is-wrong ⌝ }
 {
     0
+}
+
+// The worked examples as text, a line for each: what is asked, and what the rules answer.
+pub fn worked_examples() -> &'static str
+    ensures { λ r. ⌜ now r ≡ shown-examples ⌝ }
+{
+    "\
+with and(p, neg(p)) known, negelim(and2(known), and1(known)) concludes false\n\
+with and(p, neg(p)) known, negelim(and1(known), and2(known)) does not fit at sub-proof 5\n\
+skip(skol(f, id)) turns forall(neg(forall(q(v1, v0)))) into forall(neg(q(v0, f(v0))))\n\
+skip(skip(skol(g, id))) turns forall(forall(neg(forall(r(v2, v1, v0))))) into forall(forall(neg(r(v1, v0, g(v0, v1)))))\n\
+skip(skol(f, recnn(id))) turns forall(neg(forall(neg(forall(r(v2, v1, v0)))))) into forall(forall(r(v1, f(v1), v0)))\n\
+with forall(forall(q(v1, v0))) known, inst(d, known) concludes forall(q(d, v0))\n\
+counts: sum(65535, 1) states eq(add(65535, 1), 0)\n\
+whole numbers: sum(65535, 1) states eq(add(65535, 1), 65536)\n\
+counts: 65536 is no literal\n\
+counts: -1 is no literal\n\
+whole numbers: pair(leq(add(x, y), 5), leq(add(minus(x), z), 7)) states implies(leq(add(x, y), 5), implies(leq(add(minus(x), z), 7), leq(add(y, z), 12)))\n\
+counts: pair(leq(add(x, y), 5), leq(add(minus(x), z), 7)) states nothing, since sums are not carried\n\
+recand(skol(f, id), skol(f, id)) has a Skolem symbol twice\n\
+    "
 }
