@@ -16,3 +16,4 @@ pub mod Positions-right
 pub mod Theorems
 pub mod Shapes
 pub mod Hypotheses
+pub mod Terms-back

@@ -1,0 +1,17 @@
+pub mod Outcomes
+pub mod Names
+pub mod Admitting
+pub mod Accepted
+pub mod Soundness
+pub mod Runs
+pub mod Keeping
+pub mod Settling
+pub mod Exactness
+pub mod Refusing
+pub mod Accepting
+pub mod Tidiness
+pub mod Places
+pub mod Heads-written
+pub mod Writing
+pub mod Once
+pub mod Examples

@@ -1,0 +1,11 @@
+pub mod Refusal
+pub mod Limits
+pub mod State
+pub mod Commands
+pub mod Tests
+pub mod Session
+pub mod Run
+pub mod Theorems
+pub mod Written
+pub mod Writer
+pub mod Examples
