@@ -1,4 +1,6 @@
 // Says what query.txt and proof.txt of the working folder hold, and shows the rules at work on examples.
+mod kept;
+
 use command::form::Form;
 use command::form::Ledger;
 use command::form::LedgerForm;
@@ -33,5 +35,6 @@ fn report(rt: &LibcRuntime, name: &str) -> io::Result<()> {
 fn main(rt: LibcRuntime) -> io::Result<()> {
     report(&rt, "query.txt")?;
     report(&rt, "proof.txt")?;
-    rt.print(logic::worked_examples())
+    rt.print(logic::worked_examples())?;
+    kept::show_substitution(&rt)
 }

@@ -1,0 +1,11 @@
+pub mod Heads
+pub mod Nodes
+pub mod Keepings
+pub mod Meanings
+pub mod Making
+pub mod Outcomes
+pub mod Reading
+pub mod Raising
+pub mod Putting
+pub mod Class-is
+pub mod Forgetting
