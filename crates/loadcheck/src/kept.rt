@@ -2,8 +2,20 @@
 ghost use Rattle.terms.specs.Outcome.{Well-formed};
 use std::io;
 use terms::Terms;
-use terms::checked::{instance, make_each};
-use terms::records::{BLANK, Binary, Connective, Kind, Leaf, OnePremise, OneSided, Record, TwoPremises, TwoSided, Unary};
+use terms::checked::Unkept;
+use terms::checked::instance;
+use terms::checked::make;
+use terms::records::BLANK;
+use terms::records::Binary;
+use terms::records::Connective;
+use terms::records::Kind;
+use terms::records::Leaf;
+use terms::records::OnePremise;
+use terms::records::OneSided;
+use terms::records::Record;
+use terms::records::TwoPremises;
+use terms::records::TwoSided;
+use terms::records::Unary;
 
 fn leaf_word(head: Leaf) -> &'static str {
     match head {
@@ -108,6 +120,16 @@ fn print_record(rt: &LibcRuntime, i: u32, record: Record) -> io::Result<()> {
     }
 }
 
+fn make_each(terms: &mut Terms, records: &[Record]) -> Result<(), Unkept>
+    requires { ⌜ Well-formed (now terms) ⌝ }
+    ensures { λ _. ⌜ Well-formed (now (terms .exit)) ⌝ }
+{
+    for i in 0..records.len() {
+        let _ = make(terms, records[i])?;
+    }
+    Ok(())
+}
+
 fn print_kept(rt: &LibcRuntime, terms: &Terms, from: u32) -> io::Result<()>
     requires { ⌜ Well-formed (now terms) ⌝ }
 {
@@ -118,13 +140,22 @@ fn print_kept(rt: &LibcRuntime, terms: &Terms, from: u32) -> io::Result<()>
 }
 
 // Keeps the records, puts a thing for index 0 of a term, and prints what that adds to the table.
-fn show_instance(rt: &LibcRuntime, title: &str, records: &[Record], term: u32, thing: u32) -> io::Result<()> {
+fn show_instance(
+    rt: &LibcRuntime,
+    title: &str,
+    records: &[Record],
+    term: u32,
+    thing: u32,
+) -> io::Result<()> {
     let mut slots = [BLANK; 16];
     let mut terms = Terms::over(&mut slots);
     let made = make_each(&mut terms, records);
     let before = terms.len().min(1_000) as u32;
     match (made, instance(&mut terms, term, thing)) {
-        (Ok(()), Ok(root)) => println!(rt, "{title}: {before} records before, the result at {root}, kept:")?,
+        (Ok(()), Ok(root)) => println!(
+            rt,
+            "{title}: {before} records before, the result at {root}, kept:"
+        )?,
         _ => println!(rt, "{title}: not kept")?,
     }
     print_kept(rt, &terms, before)

@@ -14,7 +14,7 @@ use Rattle.table.specs.declared.Full.{Full}
 use Rattle.terms.specs.declared.Terms.{Terms}
 use Rattle.terms.specs.Keeping.{keep-each}
 use Rattle.terms.specs.Meaning.{at, largest}
-use Rattle.terms.specs.Outcome.{entries, count, room, trees, tree, Well-formed, Keeps, Did, Grew}
+use Rattle.terms.specs.Outcome.{entries, count, room, trees, tree, Well-formed, Keeps, Did, Tried, Grew}
 use Rattle.terms.proofs.Keepings.{keep-each-append, keep-each-more, keep-each-had, keep-one-first, length-keep-each}
 use Rattle.terms.proofs.Meanings.{trees-length, has-parts}
 
@@ -136,3 +136,7 @@ still-within old new x i d k l = later old new (parts x) (grew old new x i d) k 
 
 pub still-means : (old new : Terms) (x : Tree) (i : ℕ) → Did old new x (Ok i) → (k : ℕ) → k < count old → tree new k ≡ tree old k
 still-means old new x i d k l = later old new (parts x) (grew old new x i d) k l .0
+
+-- a refusal that touches nothing
+pub untouched : {E : Type 0} (T : Terms) (root : Tree) (e : E) → Well-formed T → Tried T T root (Err e)
+untouched T root e h = record { well-formed = h; outcome = take-all (count T) (entries T) (omega arith) }

@@ -55,3 +55,8 @@ pub record Grew (old new : Terms) (more : List Tree) : Type 0 where
   pub same-room : room new ≡ room old
   pub front : take (count old) (entries new) ≡ entries old
   pub kept-each : trees new ≡ keep-each (trees old) more
+
+-- The same of a term from outside, which is refused also where an operand is not there or a limit is passed: a refusal leaves what was kept in front.
+pub record Tried {E : Type 0} (old new : Terms) (root : Tree) (answer : Result ℕ E) : Type 0 where
+  pub well-formed : Well-formed new
+  pub outcome : Cases answer (Keeps (entries old) (entries new) root) (λ _. take (count old) (entries new) ≡ entries old)

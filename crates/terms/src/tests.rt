@@ -1,11 +1,30 @@
 // Substitution on small tables: what is kept, with room for exactly that, and with one record too few.
 ghost use Rattle.terms.specs.Outcome.{Well-formed};
 use super::*;
-use crate::checked::{Unkept, UnkeptDebug, UnkeptPartialEq, instance, make, make_each};
-use crate::plan_symbols::{PlanSymbol, PlanSymbolSame, note};
-use crate::records::{BLANK, ClassDebug, ClassPartialEq};
+use crate::checked::Unkept;
+use crate::checked::UnkeptDebug;
+use crate::checked::UnkeptPartialEq;
+use crate::checked::instance;
+use crate::checked::make;
+use crate::plan_symbols::PlanSymbol;
+use crate::plan_symbols::PlanSymbolSame;
+use crate::plan_symbols::note;
+use crate::records::BLANK;
+use crate::records::ClassDebug;
+use crate::records::ClassPartialEq;
 use std::test::*;
-use table::{FullDebug, FullPartialEq};
+use table::FullDebug;
+use table::FullPartialEq;
+
+fn make_each(terms: &mut Terms, records: &[Record]) -> Result<(), Unkept>
+    requires { ⌜ Well-formed (now terms) ⌝ }
+    ensures { λ _. ⌜ Well-formed (now (terms .exit)) ⌝ }
+{
+    for i in 0..records.len() {
+        let _ = make(terms, records[i])?;
+    }
+    Ok(())
+}
 
 // r(v1, v0) under a `forall`, at index 7, and f(v0) at index 3.
 fn relation(terms: &mut Terms) -> Result<(), Unkept>
@@ -33,9 +52,21 @@ fn a_thing_is_raised_under_a_binder() -> Result<(), Fail> {
     check_eq(relation(&mut terms), Ok(()))?;
     check_eq(instance(&mut terms, 7, 3), Ok(12))?;
     check_eq(make(&mut terms, Record::Binary(Binary::Cons, 4, 0)), Ok(8))?;
-    check_eq(make(&mut terms, Record::Unary(Unary::Application(Kind::Thing, 0), 8)), Ok(9))?;
+    check_eq(
+        make(
+            &mut terms,
+            Record::Unary(Unary::Application(Kind::Thing, 0), 8),
+        ),
+        Ok(9),
+    )?;
     check_eq(make(&mut terms, Record::Binary(Binary::Cons, 9, 2)), Ok(10))?;
-    check_eq(make(&mut terms, Record::Unary(Unary::Application(Kind::Predicate, 1), 10)), Ok(11))?;
+    check_eq(
+        make(
+            &mut terms,
+            Record::Unary(Unary::Application(Kind::Predicate, 1), 10),
+        ),
+        Ok(11),
+    )?;
     check_eq(make(&mut terms, Record::Unary(Unary::Forall, 11)), Ok(12))?;
     check_eq(terms.len(), 13)
 }
@@ -71,7 +102,13 @@ fn higher_indices_are_lowered_and_lower_ones_stay() -> Result<(), Fail> {
     check_eq(instance(&mut terms, 7, 1), Ok(11))?;
     check_eq(make(&mut terms, Record::Leaf(Leaf::Var(1))), Ok(8))?;
     check_eq(make(&mut terms, Record::Binary(Binary::Cons, 8, 3)), Ok(9))?;
-    check_eq(make(&mut terms, Record::Unary(Unary::Application(Kind::Predicate, 1), 9)), Ok(10))?;
+    check_eq(
+        make(
+            &mut terms,
+            Record::Unary(Unary::Application(Kind::Predicate, 1), 9),
+        ),
+        Ok(10),
+    )?;
     check_eq(make(&mut terms, Record::Unary(Unary::Forall, 10)), Ok(11))
 }
 
