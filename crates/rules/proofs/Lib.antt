@@ -5,7 +5,6 @@ pub mod Settling
 pub mod Stacks
 pub mod Walking
 pub mod Handing
-
 pub mod Joining
 pub mod Flat
 pub mod Answered-by

@@ -4,7 +4,6 @@ pub mod Building
 pub mod Walk
 pub mod Stack
 pub mod Hypotheses
-
 pub mod Drafts
 pub mod Stating
 pub mod Answering

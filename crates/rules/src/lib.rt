@@ -1,9 +1,8 @@
 // The rules on the table: conclusions, Skolemisation, facts.
 pub mod conclusions;
-pub mod hypotheses;
-pub mod refusal;
-
 pub mod draft;
 pub mod facts;
+pub mod hypotheses;
 mod making;
+pub mod refusal;
 mod shapes;
