@@ -43,7 +43,7 @@ fn extremes(rt: HostRuntime) {
 
 // A bound of a sum from bounds of its parts, over any arithmetic; none where sums are not carried.
 fn bound_of_sum<A: Arithmetic>(m: i64, n: i64) -> Option<i64>
-    ensures { IfSome result (λ k. (a b : ℤ) → meaning.has a ≡ true → meaning.has b ≡ true → meaning.atmost a m ≡ true → meaning.atmost b n ≡ true → meaning.atmost (meaning.sum a b) k ≡ true) }
+    ensures { IfSome result (λ k. (a b : ℤ) → A.meaning.has a ≡ true → A.meaning.has b ≡ true → A.meaning.atmost a m ≡ true → A.meaning.atmost b n ≡ true → A.meaning.atmost (A.meaning.sum a b) k ≡ true) }
 {
     if A::carries_sums() {
         A::sum(m, n)

@@ -35,7 +35,7 @@ impl Survey {
 
     // Takes the reader to its end.
     pub fn of<R: Reader + Drop>(mut reader: R) -> Survey
-        ensures { result ≡ surveyed (record { lines = 0; commands = 0; spoiled = None }) (left reader) }
+        ensures { result ≡ surveyed (record { lines = 0; commands = 0; spoiled = None }) (R.left reader) }
     {
         let mut survey = Survey {
             lines: 0,

@@ -145,7 +145,7 @@ shown_question (Question.turned p φ ψ) = shown_plan p ++ (codes " turns " ++ (
 shown_question (Question.concluded φ P ψ) = codes "with " ++ (shown_formula φ ++ (codes " known, " ++ (shown_proof P ++ (codes " concludes " ++ given (conclude (only φ) [] P)))))
 shown_question (Question.unfit φ P k) = codes "with " ++ (shown_formula φ ++ (codes " known, " ++ (shown_proof P ++ (codes " does not fit at sub-proof " ++ decimal (misfit_at (only φ) P)))))
 shown_question (Question.stated n fact ψ) = numbers_name n ++ (codes ": " ++ (shown_fact fact ++ (codes " states " ++ said (state (arithmetic n) fact))))
-shown_question (Question.not-Carried n fact) = numbers_name n ++ (codes ": " ++ (shown_fact fact ++ (codes " states " ++ said (state (arithmetic n) fact))))
+shown_question (Question.not_carried n fact) = numbers_name n ++ (codes ": " ++ (shown_fact fact ++ (codes " states " ++ said (state (arithmetic n) fact))))
 shown_question (Question.no_literal n m) = numbers_name n ++ (codes ": " ++ (signed_decimal m ++ answer ((arithmetic n).admits m) " is a literal" " is no literal"))
 shown_question (Question.shared p) = shown_plan p ++ answer (distinct (symbols p)) " has each Skolem symbol once" " has a Skolem symbol twice"
 

@@ -22,8 +22,8 @@ pub trait Same: Copy {
 
 // The place of the first entry that is the same as `e`; where entries are apart, the only one.
 pub fn first_same<E: Same>(entries: &[E], e: &E) -> Option<usize>
-    ensures first { result ≡ first same entries.now e.now }
-    ensures only { FirstIsTheOne same }
+    ensures first { result ≡ first E.same entries.now e.now }
+    ensures only { FirstIsTheOne E.same }
 {
     for i in 0..entries.len() {
         if entries[i].same_as(e) {
@@ -105,19 +105,19 @@ impl<'a, E: Same> Table<'a, E> {
 
     // The place of the entry that is the same as `e`.
     pub fn find(&self, e: &E) -> Option<usize>
-        ensures first { result ≡ first same (kept self.now) e.now }
-        ensures only { FirstIsTheOne same }
+        ensures first { result ≡ first E.same (kept self.now) e.now }
+        ensures only { FirstIsTheOne E.same }
     {
         first_same(self.entries(), e)
     }
 
     // Keeps `e`, unless one that is the same is kept already; with no place left nothing changes.
     pub fn keep(&mut self, e: E) -> Result<Place, Full>
-        ensures answer { result ≡ answer same (places self.old) (kept self.old) e }
-        ensures kept { kept self.new ≡ keep_in same (places self.old) (kept self.old) e }
+        ensures answer { result ≡ answer E.same (places self.old) (kept self.old) e }
+        ensures kept { kept self.new ≡ keep_in E.same (places self.old) (kept self.old) e }
         ensures places { places self.new ≡ places self.old }
-        ensures stands { MatchResult result (λ p. Stands same (kept self.new) e (index p)) (λ _. length (kept self.old) ≡ places self.old) }
-        ensures apart { Apart same (kept self.old) → Apart same (kept self.new) }
+        ensures stands { MatchResult result (λ p. Stands E.same (kept self.new) e (index p)) (λ _. length (kept self.old) ≡ places self.old) }
+        ensures apart { Apart E.same (kept self.old) → Apart E.same (kept self.new) }
     {
         if let Some(at) = self.find(&e) {
             return Ok(Place::Found(at));
@@ -133,8 +133,8 @@ impl<'a, E: Same> Table<'a, E> {
         ensures place { result ≡ length (kept self.old) }
         ensures kept { kept self.new ≡ kept self.old ++ e ∷ [] }
         ensures places { places self.new ≡ places self.old }
-        ensures stands { Stands same (kept self.new) e result }
-        ensures apart { has same (kept self.old) e ≡ false → Apart same (kept self.old) → Apart same (kept self.new) }
+        ensures stands { Stands E.same (kept self.new) e result }
+        ensures apart { has E.same (kept self.old) e ≡ false → Apart E.same (kept self.old) → Apart E.same (kept self.new) }
     {
         let used = self.len();
         self.slots[used] = e;
@@ -146,7 +146,7 @@ impl<'a, E: Same> Table<'a, E> {
     pub fn truncate(&mut self, n: usize)
         ensures kept { kept self.new ≡ take n (kept self.old) }
         ensures places { places self.new ≡ places self.old }
-        ensures apart { Apart same (kept self.old) → Apart same (kept self.new) }
+        ensures apart { Apart E.same (kept self.old) → Apart E.same (kept self.new) }
     {
         if n < self.len() {
             self.cut(n);
@@ -157,7 +157,7 @@ impl<'a, E: Same> Table<'a, E> {
         requires { n < length (kept self.old) }
         ensures kept { kept self.new ≡ take n (kept self.old) }
         ensures places { places self.new ≡ places self.old }
-        ensures apart { Apart same (kept self.old) → Apart same (kept self.new) }
+        ensures apart { Apart E.same (kept self.old) → Apart E.same (kept self.new) }
     {
         self.used = n;
     }
@@ -175,14 +175,14 @@ fn read<E: Copy>(entries: &[E], i: usize) -> Option<E>
 
 // Keeping each of any entries, from an empty table on, keeps each once, in the order of first appearance.
 pub fn keeping_each_keeps_first_appearances<E: Same>() -> u8
-    ensures { KeepsFirstAppearances same }
+    ensures { KeepsFirstAppearances E.same }
 {
     0
 }
 
 // Where there is room, a table keeps as if it had no end.
 pub fn room_suffices<E: Same>() -> u8
-    ensures { RoomSuffices same }
+    ensures { RoomSuffices E.same }
 {
     0
 }

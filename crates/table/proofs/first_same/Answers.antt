@@ -8,4 +8,4 @@ loop-i-init g c =
     searched_none g.E.Same.same c.args.e.now _ (record { reflexive = m.reflexive; symmetric = m.symmetric; transitive = m.transitive })
 
 pub loop-i-preserved : goal.loop-i-preserved
-loop-i-preserved g c = searched_more g.E.Same.same c.args.e.now _ _ c.loop-i.invariant _ (omega arith) c.index-entries-i.is c.if-same-as.ensures
+loop-i-preserved g c = searched_more g.E.Same.same c.args.e.now _ _ c.loop-i.invariant _ (omega arith) c.index-entries-i.is c.if-same_as.ensures

@@ -5,6 +5,6 @@ use Rattle.command.proofs.ledger.read.Goals as goal
 
 pub returns : goal.returns
 returns c = record {
-  value = reads_meaning ledger_line c.args.line.now ledger_apart c.command-of.result c.command-of.ensures;
-  means = reads_means ledger_line c.args.line.now ledger_apart c.command-of.result c.command-of.ensures;
+  value = reads_meaning ledger_line c.args.line.now ledger_apart c.command_of.result c.command_of.ensures;
+  means = reads_means ledger_line c.args.line.now ledger_apart c.command_of.result c.command_of.ensures;
 }

@@ -3,31 +3,31 @@ use Rattle.std.proofs.lemmas.Bool.Decides.{nat_tests}
 use Rattle.command.specs.Numerals.{Read, none_read, one_more, none-beyond, none_empty, none_after_zero, one_digit, all_read}
 use Rattle.command.proofs.numeral.magnitude.Goals as goal
 
-pub returns-then-is-empty : goal.returns-then-is-empty
-returns-then-is-empty c = none_empty c.args.digits.now c.args.most (omega arith) (grind (arith, nat_tests))
+pub returns-then-is_empty : goal.returns-then-is_empty
+returns-then-is_empty c = none_empty c.args.digits.now c.args.most (omega arith) (grind (arith, nat_tests))
 
-pub returns-then-has-leading-zero : goal.returns-then-has-leading-zero
-returns-then-has-leading-zero c =
-    let zero = c.has-leading-zero.ensures.0 c.if-has-leading-zero.true in
+pub returns-then-has_leading_zero : goal.returns-then-has_leading_zero
+returns-then-has_leading_zero c =
+    let zero = c.has_leading_zero.ensures.0 c.if-has-leading-zero.true in
     none_after_zero c.args.digits.now c.args.most (omega arith) zero.0 zero.1
 
 pub loop-byte-init : goal.loop-byte-init
 loop-byte-init c =
     let some : 0 < length c.args.digits.now = grind (arith, nat_tests) in
-    (none_read _, omega arith, some, one_digit c.args.digits.now c.has-leading-zero.result c.has-leading-zero.ensures.1 c.if-has-leading-zero.false some)
+    (none_read _, omega arith, some, one_digit c.args.digits.now c.has_leading_zero.result c.has_leading_zero.ensures.1 c.if-has_leading_zero.false some)
 
 pub loop-byte-preserved : goal.loop-byte-preserved
 loop-byte-preserved c =
-    let e = c.in-ok-value.ensures in
+    let e = c.in_ok-value.ensures in
     let i = c.loop-byte.invariant in
     let more = one_more c.args.digits.now c.loop-byte.byte-index c.loop-byte.value c.loop-byte-test.true i.0 e.0 e.1 in
     (rw e.2 more, e.3, i.2, i.3)
 
-pub returns-in-err-value : goal.returns-in-err-value
-returns-in-err-value c =
-    rw c.from-residual.ensures
+pub returns-in_err-value : goal.returns-in_err-value
+returns-in_err-value c =
+    rw c.from_residual.ensures
     (none-beyond c.args.digits.now c.loop-byte.byte-index c.loop-byte.value c.args.most c.loop-byte-test.true (omega arith) c.loop-byte.invariant.0
-    c.in-err-value.ensures)
+    c.in_err-value.ensures)
 
 pub returns : goal.returns
 returns c =

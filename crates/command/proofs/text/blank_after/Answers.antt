@@ -13,7 +13,7 @@ pub loop-i-preserved : goal.loop-i-preserved
 loop-i-preserved c =
     let line = c.args.line.now in
     let i = c.loop-i.i in
-    let e = run_before line i c.loop-i-test.true (not_32 (get_or line i 0) (λ b. c.in-default.not-Blank (c.sort-byte.ensures ∙ b))) in
+    let e = run_before line i c.loop-i-test.true (not_32 (get_or line i 0) (λ b. c.in_default.not-Blank (c.sort_byte.ensures ∙ b))) in
     (omega arith, omega arith)
 
 pub returns : goal.returns

@@ -5,6 +5,6 @@ use Rattle.command.proofs.text.read.Goals as goal
 
 pub returns : goal.returns
 returns c = record {
-  value = reads_meaning text_line c.args.line.now text_apart c.command-of.result c.command-of.ensures;
-  means = reads_means text_line c.args.line.now text_apart c.command-of.result c.command-of.ensures;
+  value = reads_meaning text_line c.args.line.now text_apart c.command_of.result c.command_of.ensures;
+  means = reads_means text_line c.args.line.now text_apart c.command_of.result c.command_of.ensures;
 }

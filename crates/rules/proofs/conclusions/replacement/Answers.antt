@@ -13,14 +13,14 @@ instance-requires c =
     let p = placeable T c.requires.well_formed c.args.a c.args.t b.0 b.3 (omega (arith, c.requires.small)) in
     record { well_formed = c.requires.well_formed; within = b.0; thing = b.1; unbound = p.unbound; fits = p.fits; small = p.small }
 
-pub returns-in-err-left : goal.returns-in-err-left
-returns-in-err-left c = left_broke (connect implication) _ _ _ refl _ _ _ _ c.requires.well_formed c.in-err-left.ensures c.from-residual.ensures.0
+pub returns-in_err-left : goal.returns-in_err-left
+returns-in_err-left c = left_broke (connect implication) _ _ _ refl _ _ _ _ c.requires.well_formed c.in_err-left.ensures c.from_residual.ensures.0
 
 pub instance-requires-2 : goal.instance-requires-2
 instance-requires-2 c =
     let T = c.args.terms.now in
     let b = c.requires.buildable in
-    let d = c.in-ok-left.ensures in
+    let d = c.in_ok-left.ensures in
     let p = placeable T c.requires.well_formed c.args.a c.args.u b.0 b.4 (omega (arith, c.requires.small)) in
     let q = placeable_later T c.instance.new.self c.args.a c.args.u (still_means _ _ _ _ d c.args.a b.0) (still_means _ _ _ _ d c.args.u b.2) p in
     record {
@@ -32,18 +32,18 @@ instance-requires-2 c =
       small = q.small;
     }
 
-pub returns-in-err-right : goal.returns-in-err-right
-returns-in-err-right c =
+pub returns-in_err-right : goal.returns-in_err-right
+returns-in_err-right c =
     let b = c.requires.buildable in
-    let d = c.in-ok-left.ensures in
+    let d = c.in_ok-left.ensures in
     let e = ap₂ (put_tree 0) (still_means _ _ _ _ d c.args.u b.2) (still_means _ _ _ _ d c.args.a b.0) in
-    right_broke (connect implication) _ _ _ (ap (binary (connect implication) (put_tree 0 (tree c.args.terms.now c.args.t) (tree c.args.terms.now c.args.a))) (sym e)) _ _ _ _ _ _ d c.in-err-right.ensures c.from-residual-in-err-right.ensures.0
+    right_broke (connect implication) _ _ _ (ap (binary (connect implication) (put_tree 0 (tree c.args.terms.now c.args.t) (tree c.args.terms.now c.args.a))) (sym e)) _ _ _ _ _ _ d c.in_err-right.ensures c.from_residual-in_err-right.ensures.0
 
 pub binary-requires : goal.binary-requires
 binary-requires c =
     let b = c.requires.buildable in
-    let d = c.in-ok-left.ensures in
-    let k = c.in-ok-right.ensures in
+    let d = c.in_ok-left.ensures in
+    let k = c.in_ok-right.ensures in
     let e = ap₂ (put_tree 0) (still_means _ _ _ _ d c.args.u b.2) (still_means _ _ _ _ d c.args.a b.0) in
     record {
       well_formed = k.well-formed;
@@ -55,7 +55,7 @@ binary-requires c =
 pub returns : goal.returns
 returns c =
     let b = c.requires.buildable in
-    let d = c.in-ok-left.ensures in
-    let k = c.in-ok-right.ensures in
+    let d = c.in_ok-left.ensures in
+    let k = c.in_ok-right.ensures in
     let e = ap₂ (put_tree 0) (still_means _ _ _ _ d c.args.u b.2) (still_means _ _ _ _ d c.args.a b.0) in
     two_did (connect implication) _ _ _ (ap (binary (connect implication) (put_tree 0 (tree c.args.terms.now c.args.t) (tree c.args.terms.now c.args.a))) (sym e)) _ _ _ _ _ _ _ d k c.binary.ensures

@@ -4,8 +4,8 @@ use Rattle.rules.specs.Building.{built, chosen}
 use Rattle.rules.proofs.Settling.{refused_unfounded, refused_oversized, kept_conclusion}
 use Rattle.rules.proofs.conclusions.settle.Goals as goal
 
-pub returns-in-default : goal.returns-in-default
-returns-in-default c = refused_unfounded c.args.terms.now _ c.args.at _ c.requires.well_formed (ap (chosen (tree c.args.terms.now)) c.in-default.is)
+pub returns-in_default : goal.returns-in_default
+returns-in_default c = refused_unfounded c.args.terms.now _ c.args.at _ c.requires.well_formed (ap (chosen (tree c.args.terms.now)) c.in_default.is)
 
 pub returns-then-not-within-limits : goal.returns-then-not-within-limits
 returns-then-not-within-limits c =

@@ -12,13 +12,13 @@ use Rattle.rules.proofs.AnsweredBy.{misshapen_answer, unadmitted_answer, made_an
 use Rattle.rules.proofs.Literals.{sum_left_misshapen, sum_right_misshapen, atmost_left_misshapen, atmost_right_misshapen, left_admitted, right_admitted, sum_admitted, sum_unadmitted, sum_states, sum_states_none, atmost_states, above_states, read_small}
 use Rattle.rules.proofs.facts.at_most.Goals as goal
 
-pub returns-in-default : goal.returns-in-default
-returns-in-default g c = λ x y e f.
+pub returns-in_default : goal.returns-in_default
+returns-in_default g c = λ x y e f.
     let h : literal (tree c.args.terms.now c.args.a) ≡ None = search rules in
     misshapen_answer g.A.Arithmetic.meaning c.args.terms.now (atmost x y) c.requires.well_formed (atmost_left_misshapen g.A.Arithmetic.meaning x y e f h)
 
-pub returns-in-default-literal : goal.returns-in-default-literal
-returns-in-default-literal g c = λ x y e f.
+pub returns-in_default-literal : goal.returns-in_default-literal
+returns-in_default-literal g c = λ x y e f.
     let h : literal (tree c.args.terms.now c.args.a) ≡ Some c.in-Some.m = search rules in
     let k : literal (tree c.args.terms.now c.args.b) ≡ None = search rules in
     misshapen_answer g.A.Arithmetic.meaning c.args.terms.now (atmost x y) c.requires.well_formed (atmost_right_misshapen g.A.Arithmetic.meaning x y e f c.in-Some.m h k)

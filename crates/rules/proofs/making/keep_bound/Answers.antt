@@ -7,15 +7,15 @@ use Rattle.rules.specs.Stating.{bound_tree}
 use Rattle.rules.proofs.Joining.{after_kept_broke, after_kept_small, after_kept_did}
 use Rattle.rules.proofs.making.keep_bound.Goals as goal
 
-pub returns-in-err-bound : goal.returns-in-err-bound
-returns-in-err-bound c =
+pub returns-in_err-bound : goal.returns-in_err-bound
+returns-in_err-bound c =
     let k : to_z w64 (of_z w64 c.args.n) ≡ c.args.n = search rules in
-    subst (λ n. Did c.args.terms.now c.join.new.terms (bound_tree (tree c.args.terms.now c.args.premise) (tree c.args.terms.now c.args.b) (tree c.args.terms.now c.args.c) n) c.from-residual.result) k
-    (after_kept_broke (connect implication) _ c.requires.well_formed c.args.premise c.requires.premise _ _ _ _ c.in-err-bound.ensures c.from-residual.ensures.0)
+    subst (λ n. Did c.args.terms.now c.join.new.terms (bound_tree (tree c.args.terms.now c.args.premise) (tree c.args.terms.now c.args.b) (tree c.args.terms.now c.args.c) n) c.from_residual.result) k
+    (after_kept_broke (connect implication) _ c.requires.well_formed c.args.premise c.requires.premise _ _ _ _ c.in_err-bound.ensures c.from_residual.ensures.0)
 
 pub binary-requires : goal.binary-requires
 binary-requires c =
-    let d = c.in-ok-bound.ensures in
+    let d = c.in_ok-bound.ensures in
     record {
       well_formed = d.well_formed;
       left = still_within _ _ _ _ d c.args.premise c.requires.premise;
@@ -27,4 +27,4 @@ pub returns : goal.returns
 returns c =
     let k : to_z w64 (of_z w64 c.args.n) ≡ c.args.n = search rules in
     subst (λ n. Did c.args.terms.now c.binary.new.self (bound_tree (tree c.args.terms.now c.args.premise) (tree c.args.terms.now c.args.b) (tree c.args.terms.now c.args.c) n) c.binary.result) k
-    (after_kept_did (connect implication) _ c.requires.well_formed c.args.premise c.requires.premise _ _ _ _ _ c.in-ok-bound.ensures c.binary.ensures)
+    (after_kept_did (connect implication) _ c.requires.well_formed c.args.premise c.requires.premise _ _ _ _ _ c.in_ok-bound.ensures c.binary.ensures)

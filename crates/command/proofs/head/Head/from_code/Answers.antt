@@ -6,6 +6,6 @@ use Rattle.command.proofs.head.Head.from_code.Goals as goal
 
 pub returns : goal.returns
 returns c = record {
-  value = c.by-code.ensures;
-  names = subst (λ (r : Option Head). Named code c.args.number r) (sym c.by-code.ensures) (coded_names c.args.number);
+  value = c.by_code.ensures;
+  names = subst (λ (r : Option Head). Named code c.args.number r) (sym c.by_code.ensures) (coded_names c.args.number);
 }

@@ -7,6 +7,6 @@ use Rattle.command.proofs.head.Head.from_word.Goals as goal
 pub returns : goal.returns
 unfolding worded
 returns c = record {
-  value = c.by-word.ensures;
-  names = subst (λ (r : Option Head). Named word c.args.spelling.now r) (sym c.by-word.ensures) (worded_names c.args.spelling.now);
+  value = c.by_word.ensures;
+  names = subst (λ (r : Option Head). Named word c.args.spelling.now r) (sym c.by_word.ensures) (worded_names c.args.spelling.now);
 }
