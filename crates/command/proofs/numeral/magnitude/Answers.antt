@@ -8,7 +8,7 @@ returns-then-is_empty c = none_empty c.args.digits.now c.args.most (omega arith)
 
 pub returns-then-has_leading_zero : goal.returns-then-has_leading_zero
 returns-then-has_leading_zero c =
-    let zero = c.has_leading_zero.ensures.0 c.if-has-leading-zero.true in
+    let zero = c.has_leading_zero.ensures.0 c.if-has_leading_zero.true in
     none_after_zero c.args.digits.now c.args.most (omega arith) zero.0 zero.1
 
 pub loop-byte-init : goal.loop-byte-init
