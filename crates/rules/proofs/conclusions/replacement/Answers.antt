@@ -46,7 +46,7 @@ binary-requires c =
     let k = c.in_ok-right.ensures in
     let e = ap₂ (put_tree 0) (still_means _ _ _ _ d c.args.u b.2) (still_means _ _ _ _ d c.args.a b.0) in
     record {
-      well_formed = k.well-formed;
+      well_formed = k.well_formed;
       left = still_within _ _ _ _ k _ d.outcome.within;
       right = k.outcome.within;
       small = two_small (connect implication) _ _ _ (ap (binary (connect implication) (put_tree 0 (tree c.args.terms.now c.args.t) (tree c.args.terms.now c.args.a))) (sym e)) c.requires.small _ _ _ _ _ d k;

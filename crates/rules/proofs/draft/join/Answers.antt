@@ -25,7 +25,7 @@ binary-requires c =
     let d = c.in_ok-left.ensures in
     let k = c.in_ok-right.ensures in
     record {
-      well_formed = k.well-formed;
+      well_formed = k.well_formed;
       left = still_within _ _ _ _ k _ d.outcome.within;
       right = k.outcome.within;
       small = then_two_small (binary_head c.args.head) _ (part_still_means _ _ _ _ d c.args.y c.requires.right) c.requires.small _ _ _ _ _ d k;

@@ -37,7 +37,7 @@ binary-requires-2 c =
     let x = part_still_means _ _ _ _ d (Two Leq c.args.b c.args.c) (c.requires.second, c.requires.third) in
     let y = part_still_means _ _ _ _ d (Two Leq c.args.a c.args.c) (c.requires.first, c.requires.third) in
     record {
-      well_formed = k.well-formed;
+      well_formed = k.well_formed;
       left = still_within _ _ _ _ k _ d.outcome.within;
       right = k.outcome.within;
       small = then_two_small (connect implication) _ (ap₂ implies_tree x y) c.requires.small _ _ _ _ _ d k;

@@ -9,30 +9,30 @@ pub returns-then-indices-depth : goal.returns-then-indices-depth
 returns-then-indices-depth t c =
     did_stay c.args.self.now _ _ c.requires.well_formed c.requires.within (sym (put_late_closed _ _ _ (omega (arith, c.indices.ensures, c.if-indices-depth.true))))
 
-pub returns-in_err-a : goal.returns-in_err-a
-returns-in_err-a t c =
-    one_broke _ _ _ (put_one _ _ _ _ _ _ c.in-Unary.ensures.means c.under.ensures) _ _ _ _ c.requires.well_formed c.in_err-a.ensures c.from_residual.ensures.0
+pub returns-in_err-a-in-Unary : goal.returns-in_err-a-in-Unary
+returns-in_err-a-in-Unary t c =
+    one_broke _ _ _ (put_one _ _ _ _ _ _ c.in-Unary.ensures.means c.under.ensures) _ _ _ _ c.requires.well_formed c.in_err-a-in-Unary.ensures c.from_residual.ensures.0
 
 pub unary-requires : goal.unary-requires
 unary-requires t c =
-    let d = c.in_ok-a.ensures in
+    let d = c.in_ok-a-in-Unary.ensures in
     record {
       well_formed = d.well_formed;
       within = d.outcome.within;
       small = one_small _ _ _ (put_one _ _ _ _ _ _ c.in-Unary.ensures.means c.under.ensures) (put_late_small c.args.depth (tree c.args.self.now c.args.thing) (tree c.args.self.now c.args.term) c.requires.small) _ _ _ d;
     }
 
-pub returns-in_ok-a : goal.returns-in_ok-a
-returns-in_ok-a t c =
-    one_did _ _ _ (put_one _ _ _ _ _ _ c.in-Unary.ensures.means c.under.ensures) _ _ _ _ _ c.in_ok-a.ensures c.unary.ensures
+pub returns-in_ok-a-in-Unary : goal.returns-in_ok-a-in-Unary
+returns-in_ok-a-in-Unary t c =
+    one_did _ _ _ (put_one _ _ _ _ _ _ c.in-Unary.ensures.means c.under.ensures) _ _ _ _ _ c.in_ok-a-in-Unary.ensures c.unary.ensures
 
-pub returns-in_err-a-2 : goal.returns-in_err-a-2
-returns-in_err-a-2 t c =
-    left_broke _ _ _ _ (ap (put_late _ _) c.in-Binary.ensures.means) _ _ _ _ c.requires.well_formed c.in_err-a-2.ensures c.from_residual-in_err-a-2.ensures.0
+pub returns-in_err-a-in-Binary : goal.returns-in_err-a-in-Binary
+returns-in_err-a-in-Binary t c =
+    left_broke _ _ _ _ (ap (put_late _ _) c.in-Binary.ensures.means) _ _ _ _ c.requires.well_formed c.in_err-a-in-Binary.ensures c.from_residual-in_err-a-in-Binary.ensures.0
 
 pub substitute-requires-in-Binary-2 : goal.substitute-requires-in-Binary-2
 substitute-requires-in-Binary-2 t c =
-    let d = c.in_ok-a-2.ensures in
+    let d = c.in_ok-a-in-Binary.ensures in
     let e = c.in-Binary.ensures.means in
     let early = c.in-Binary.ensures.earlier in
     let s = still_means _ _ _ _ d c.args.thing c.requires.thing in
@@ -50,32 +50,32 @@ substitute-requires-in-Binary-2 t c =
       ),
     )
 
-pub returns-in_err-b : goal.returns-in_err-b
-returns-in_err-b t c =
-    let d = c.in_ok-a-2.ensures in
+pub returns-in_err-b-in-Binary : goal.returns-in_err-b-in-Binary
+returns-in_err-b-in-Binary t c =
+    let d = c.in_ok-a-in-Binary.ensures in
     let early = c.in-Binary.ensures.earlier in
     let s = still_means _ _ _ _ d c.args.thing c.requires.thing in
     let r = still_means _ _ _ _ d c.in-Binary.b (omega (arith, c.requires.within)) in
-    right_broke _ _ _ _ (put_two _ _ _ _ _ _ _ _ c.in-Binary.ensures.means s r) _ _ _ _ _ _ d c.in_err-b.ensures c.from_residual-in_err-b.ensures.0
+    right_broke _ _ _ _ (put_two _ _ _ _ _ _ _ _ c.in-Binary.ensures.means s r) _ _ _ _ _ _ d c.in_err-b-in-Binary.ensures c.from_residual-in_err-b-in-Binary.ensures.0
 
 pub binary-requires : goal.binary-requires
 binary-requires t c =
-    let d = c.in_ok-a-2.ensures in
-    let k = c.in_ok-b.ensures in
+    let d = c.in_ok-a-in-Binary.ensures in
+    let k = c.in_ok-b-in-Binary.ensures in
     let early = c.in-Binary.ensures.earlier in
     let s = still_means _ _ _ _ d c.args.thing c.requires.thing in
     let r = still_means _ _ _ _ d c.in-Binary.b (omega (arith, c.requires.within)) in
     record {
-      well_formed = k.well-formed;
+      well_formed = k.well_formed;
       left = still_within _ _ _ _ k _ d.outcome.within;
       right = k.outcome.within;
       small = two_small _ _ _ _ (put_two _ _ _ _ _ _ _ _ c.in-Binary.ensures.means s r) (put_late_small c.args.depth (tree c.args.self.now c.args.thing) (tree c.args.self.now c.args.term) c.requires.small) _ _ _ _ _ d k;
     }
 
-pub returns-in_ok-b : goal.returns-in_ok-b
-returns-in_ok-b t c =
-    let d = c.in_ok-a-2.ensures in
+pub returns-in_ok-b-in-Binary : goal.returns-in_ok-b-in-Binary
+returns-in_ok-b-in-Binary t c =
+    let d = c.in_ok-a-in-Binary.ensures in
     let early = c.in-Binary.ensures.earlier in
     let s = still_means _ _ _ _ d c.args.thing c.requires.thing in
     let r = still_means _ _ _ _ d c.in-Binary.b (omega (arith, c.requires.within)) in
-    two_did _ _ _ _ (put_two _ _ _ _ _ _ _ _ c.in-Binary.ensures.means s r) _ _ _ _ _ _ _ d c.in_ok-b.ensures c.binary.ensures
+    two_did _ _ _ _ (put_two _ _ _ _ _ _ _ _ c.in-Binary.ensures.means s r) _ _ _ _ _ _ _ d c.in_ok-b-in-Binary.ensures c.binary.ensures

@@ -2,8 +2,8 @@ use Rattle.std.proofs.Common.{arith}
 use Rattle.terms.proofs.Making.{did_place, did_full, index_fits}
 use Rattle.terms.proofs.Terms.keep.Goals as goal
 
-pub overflow-cast-result : goal.overflow-cast-result
-overflow-cast-result c =
+pub overflow_cast-result : goal.overflow_cast-result
+overflow_cast-result c =
     let p = c.requires in
     let k = c.in-Ok.ensures in
     let d = did_place c.args.self.now (record { table = c.keep.new.self }) p.well_formed c.args.entry p.earlier p.measures p.small c.in-Ok.place _ c.index.ensures k.places k.answer k.kept in

@@ -7,5 +7,5 @@ returns-then-term-len c = untouched c.args.terms.now _ _ c.requires
 pub returns-then-foralls-gt0 : goal.returns-then-foralls-gt0
 returns-then-foralls-gt0 c = untouched c.args.terms.now _ _ c.requires
 
-pub returns-then-size-after-gt20000 : goal.returns-then-size-after-gt20000
-returns-then-size-after-gt20000 c = untouched c.args.terms.now _ _ c.requires
+pub returns-then-size_after-gt20000 : goal.returns-then-size_after-gt20000
+returns-then-size_after-gt20000 c = untouched c.args.terms.now _ _ c.requires
