@@ -93,7 +93,7 @@ pub fn sum<A: Arithmetic>(terms: &mut Terms, a: u32, b: u32) -> Result<u32, Reas
     requires well_formed { WellFormed terms.old }
     requires left { a < count terms.old }
     requires right { b < count terms.old }
-    ensures { (x y : Number) → tree terms.old a ≡ number_tree x → tree terms.old b ≡ number_tree y → literals_pass meaning.admits (number_tree x) ≡ true → literals_pass meaning.admits (number_tree y) ≡ true → Answered meaning terms.old terms.new (sum x y) result }
+    ensures { (x y : Number) → tree terms.old a ≡ number_tree x → tree terms.old b ≡ number_tree y → literals_pass A.meaning.admits (number_tree x) ≡ true → literals_pass A.meaning.admits (number_tree y) ≡ true → Answered A.meaning terms.old terms.new (sum x y) result }
 {
     let Some(m) = literal(terms, a) else {
         return Err(Reason::Unfounded);
@@ -117,7 +117,7 @@ pub fn at_most<A: Arithmetic>(terms: &mut Terms, a: u32, b: u32) -> Result<u32, 
     requires well_formed { WellFormed terms.old }
     requires left { a < count terms.old }
     requires right { b < count terms.old }
-    ensures { (x y : Number) → tree terms.old a ≡ number_tree x → tree terms.old b ≡ number_tree y → Answered meaning terms.old terms.new (atmost x y) result }
+    ensures { (x y : Number) → tree terms.old a ≡ number_tree x → tree terms.old b ≡ number_tree y → Answered A.meaning terms.old terms.new (atmost x y) result }
 {
     let Some(m) = literal(terms, a) else {
         return Err(Reason::Unfounded);

@@ -23,8 +23,8 @@ returns-in_default-literal g c = λ x y e f.
     let k : literal (tree c.args.terms.now c.args.b) ≡ None = search rules in
     misshapen_answer g.A.Arithmetic.meaning c.args.terms.now (atmost x y) c.requires.well_formed (atmost_right_misshapen g.A.Arithmetic.meaning x y e f c.in-Some.m h k)
 
-pub returns-then-at-most : goal.returns-then-at-most
-returns-then-at-most g c = λ x y e f.
+pub returns-then-at_most : goal.returns-then-at_most
+returns-then-at_most g c = λ x y e f.
     let M = g.A.Arithmetic.meaning in
     let m = c.in-Some.m in
     let n = c.in-Some-literal.n in
@@ -37,8 +37,8 @@ returns-then-at-most g c = λ x y e f.
     (subst (λ t. Did c.args.terms.now c.binary.new.self t c.binary.result) (ap₂ (binary trees.leq) e f) c.binary.ensures)
     c.crowded.ensures
 
-pub returns-else-at-most : goal.returns-else-at-most
-returns-else-at-most g c = λ x y e f.
+pub returns-else-at_most : goal.returns-else-at_most
+returns-else-at_most g c = λ x y e f.
     let M = g.A.Arithmetic.meaning in
     let m = c.in-Some.m in
     let n = c.in-Some-literal.n in
@@ -47,6 +47,6 @@ returns-else-at-most g c = λ x y e f.
     let z = read_small M x y e f m n h k in
     let b : g.A.Arithmetic.meaning.atmost c.in-Some.m c.in-Some-literal.n ≡ false = search rules in
     made_answer M c.args.terms.now (atmost x y) (neg (leq x y)) (above_states M x y e f m n h k b) (neg_flat (leq x y) (relate_flat at_most x y))
-    (omega (arith, ap size e, ap size f, z.0, z.1)) c.keep-above.new.terms c.keep-above.result c.crowded-else-at-most.result
-    (subst (λ t. Did c.args.terms.now c.keep-above.new.terms t c.keep-above.result) (ap₂ above_tree e f) c.keep-above.ensures)
-    c.crowded-else-at-most.ensures
+    (omega (arith, ap size e, ap size f, z.0, z.1)) c.keep_above.new.terms c.keep_above.result c.crowded-else-at_most.result
+    (subst (λ t. Did c.args.terms.now c.keep_above.new.terms t c.keep_above.result) (ap₂ above_tree e f) c.keep_above.ensures)
+    c.crowded-else-at_most.ensures

@@ -16,5 +16,5 @@ returns-then-size-gt20000 c = λ M x e.
 pub returns : goal.returns
 returns c = λ M x e.
     made_answer M c.args.terms.now (cancel x) (eq_numbers (add x (minus x)) (lit (pos 0))) refl (relate_flat equal (add x (minus x)) (lit (pos 0)))
-    (omega (arith, ap size e, c.size.ensures.exact, c.if-size-gt20000.false)) c.keep-cancel.new.terms c.keep-cancel.result c.crowded.result
-    (subst (λ z. Did c.args.terms.now c.keep-cancel.new.terms (cancel_tree z) c.keep-cancel.result) e c.keep-cancel.ensures) c.crowded.ensures
+    (omega (arith, ap size e, c.size.ensures.exact, c.if-size-gt20000.false)) c.keep_cancel.new.terms c.keep_cancel.result c.crowded.result
+    (subst (λ z. Did c.args.terms.now c.keep_cancel.new.terms (cancel_tree z) c.keep_cancel.result) e c.keep_cancel.ensures) c.crowded.ensures

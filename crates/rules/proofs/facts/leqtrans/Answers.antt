@@ -18,5 +18,5 @@ returns-then-size-gt20000 c = λ M x y z e g h.
 pub returns : goal.returns
 returns c = λ M x y z e g h.
     made_answer M c.args.terms.now (leqtrans x y z) (implies (leq x y) (implies (leq y z) (leq x z))) refl (implies_flat (leq x y) (implies (leq y z) (leq x z)) (relate_flat at_most x y) (implies_flat (leq y z) (leq x z) (relate_flat at_most y z) (relate_flat at_most x z)))
-    (omega (arith, ap size e, ap size g, ap size h, c.size.ensures.exact, c.size-2.ensures.exact, c.size-3.ensures.exact, c.if-size-gt20000.false)) c.keep-leqtrans.new.terms c.keep-leqtrans.result c.crowded.result
-    (subst (λ t. Did c.args.terms.now c.keep-leqtrans.new.terms t c.keep-leqtrans.result) (ap₂ (λ s t. leqtrans_tree s t (tree c.args.terms.now c.args.c)) e g ∙ ap (leqtrans_tree (number_tree x) (number_tree y)) h) c.keep-leqtrans.ensures) c.crowded.ensures
+    (omega (arith, ap size e, ap size g, ap size h, c.size.ensures.exact, c.size-2.ensures.exact, c.size-3.ensures.exact, c.if-size-gt20000.false)) c.keep_leqtrans.new.terms c.keep_leqtrans.result c.crowded.result
+    (subst (λ t. Did c.args.terms.now c.keep_leqtrans.new.terms t c.keep_leqtrans.result) (ap₂ (λ s t. leqtrans_tree s t (tree c.args.terms.now c.args.c)) e g ∙ ap (leqtrans_tree (number_tree x) (number_tree y)) h) c.keep_leqtrans.ensures) c.crowded.ensures

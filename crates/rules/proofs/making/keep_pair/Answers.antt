@@ -10,7 +10,7 @@ use Rattle.rules.proofs.making.keep_pair.Goals as goal
 pub returns-in_err-rest : goal.returns-in_err-rest
 returns-in_err-rest c =
     let k : to_z w64 (of_z w64 c.args.n) ≡ c.args.n = search rules in
-    subst (λ n. Did c.args.terms.now c.keep-bound.new.terms (pair_tree (tree c.args.terms.now c.args.premise) (tree c.args.terms.now c.args.other) (tree c.args.terms.now c.args.b) (tree c.args.terms.now c.args.c) n) c.from_residual.result) k
+    subst (λ n. Did c.args.terms.now c.keep_bound.new.terms (pair_tree (tree c.args.terms.now c.args.premise) (tree c.args.terms.now c.args.other) (tree c.args.terms.now c.args.b) (tree c.args.terms.now c.args.c) n) c.from_residual.result) k
     (after_kept_broke (connect implication) _ c.requires.well_formed c.args.premise c.requires.premise _ _ _ _ c.in_err-rest.ensures c.from_residual.ensures.0)
 
 pub binary-requires : goal.binary-requires
