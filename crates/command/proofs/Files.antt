@@ -1,13 +1,12 @@
 -- Files and their lines.
-use Rattle.std.proofs.Common.{◌≡◌, ℕ, zero, suc, ◌+◌, ◌<◌, ◌≤◌, Bool, true, false, cond, eqb, ltb, List, [], ◌∷◌, ◌++◌, length, get_or, take, drop, Some, None, Option, sym, refl, ap, ◌∙◌, subst, add-one, arith}
+use Rattle.std.proofs.Common.{◌≡◌, ℕ, suc, ◌+◌, ◌<◌, ◌≤◌, Bool, true, false, cond, eqb, ltb, List, [], ◌∷◌, ◌++◌, length, get_or, take, drop, Option, sym, refl, ap, ◌∙◌, add-one, arith}
 use Rattle.std.proofs.lemmas.List.{at_drop_more, at_drop_all, nil_from_length}
-use Rattle.std.proofs.lemmas.Bool.{cond-true, cond-false, eqb-true, eqb-false, eq-eqb, ne_eqb, le-ltb}
+use Rattle.std.proofs.lemmas.Bool.{cond-true, cond-false, eq-eqb, ne_eqb, le-ltb}
 use Rattle.command.specs.declared.command.Content.{Content}
 use Rattle.command.specs.declared.command.Content.TheVariants.{Spoiled}
-use Rattle.command.specs.declared.command.Content.TheVariants as Content
 use Rattle.command.specs.declared.command.Command.{Command}
 use Rattle.command.specs.declared.command.Item.{Item}
-use Rattle.command.specs.Lines.{Line, ended, endless, prepended, lines, line_length, command_or_spoiled, items_from, remaining, next_of, rest_of, Numbered, items, Unbroken, LinesUnbroken, WrittenCommand, file, commands_from, ReadsBack}
+use Rattle.command.specs.Lines.{Line, ended, endless, prepended, lines, line_length, command_or_spoiled, items_from, remaining, Numbered, Unbroken, LinesUnbroken, WrittenCommand, file, commands_from, ReadsBack}
 use Rattle.command.specs.Meaning.{Form, meaning, Apart}
 use Rattle.command.proofs.Meanings.{meaning_is}
 

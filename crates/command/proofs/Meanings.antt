@@ -1,14 +1,14 @@
 -- The search for the command whose line it is finds it.
-use Rattle.std.proofs.Common.{◌≡◌, ℕ, zero, suc, ◌<◌, ◌≤◌, Bool, true, false, cond, eqb, ◌⊎◌, ◌↔◌, List, [], ◌∷◌, ℤ, pos, negsuc, Some, None, Option, sym, refl, ap, ◌∙◌, subst, inl, inr, ⊎_elim, arith}
+use Rattle.std.proofs.Common.{◌≡◌, ℕ, zero, suc, ◌<◌, ◌≤◌, Bool, true, false, cond, eqb, ◌⊎◌, List, [], ◌∷◌, ℤ, pos, negsuc, Some, None, Option, sym, refl, ap, ◌∙◌, subst, inl, inr, ⊎_elim, arith}
 use Rattle.std.proofs.lemmas.Slice.Eq.{bytes_eq-Decides}
 use Rattle.std.proofs.lemmas.Bool.{cond-true, cases_lt}
 use Rattle.std.specs.Str.{bytes_eq}
 use Rattle.command.specs.declared.command.Command.{Command}
 use Rattle.command.specs.declared.head.Head.{Head}
-use Rattle.command.specs.Heads.{heads, code, uses, coded, coded_among}
+use Rattle.command.specs.Heads.{heads, code, uses, coded_among}
 use Rattle.command.specs.Meaning.{Form, or_else, first_below, first_of, tried, with_literal, with_head, meaning, Writes, Means, Apart}
 use Rattle.command.specs.Reads.{Reads}
-use Rattle.command.specs.Written.{numbers, up, down, NumberFits, LiteralFits, Suits, Proper}
+use Rattle.command.specs.Written.{numbers, up, down, LiteralFits, Proper}
 use Rattle.command.specs.Operands.{same_command}
 use Rattle.command.specs.Words.{coded_code}
 

@@ -1,16 +1,16 @@
 -- The word that a line begins with.
-use Rattle.std.specs.Prelude.{◌≡◌, ℕ, suc, ◌+◌, ◌<◌, ◌≤◌, Bool, true, false, cond, not, ◌&&◌, ◌||◌, List, [], ◌∷◌, ◌++◌, length, take, drop, Some, None, Option, ◌==◌, nat_le, refl}
+use Rattle.std.specs.Prelude.{◌≡◌, ℕ, Bool, true, false, cond, not, ◌&&◌, ◌||◌, List, [], ◌∷◌, ◌++◌, length, take, drop, Some, None, Option, ◌==◌, nat_le, refl}
 use Rattle.std.proofs.Common.{sym, ap, ◌∙◌, subst, arith}
 use Rattle.std.proofs.lemmas.List.{take-append-drop, length-take, take_at}
-use Rattle.std.proofs.lemmas.Bool.{eqb-true, eqb-false, and_parts, not-true, cond-true, or_left}
+use Rattle.std.proofs.lemmas.Bool.{eqb-false, and_parts, not-true, cond-true, or_left}
 use Rattle.command.specs.declared.text.Sort.{Sort}
 use Rattle.command.specs.declared.text.Sort.TheVariants.{Letter, Digit, Minus, Blank, Other}
 use Rattle.command.specs.declared.head.Head.{Head}
 use Rattle.command.specs.Heads.{worded, word as name}
-use Rattle.command.specs.Tokens.{sort_of, run, by_first, token_from, Parted, Unblank, Seen, word, number, Begins}
+use Rattle.command.specs.Tokens.{sort_of, run, by_first, token_from, Parted, Unblank, word, number, Begins}
 use Rattle.command.specs.TokensLemmas.{run_append}
 use Rattle.command.specs.Fields.{run_within, parted_after_run}
-use Rattle.command.specs.Words.{passes, worded_names, worded_word}
+use Rattle.command.specs.Words.{passes, worded_names}
 
 -- ---- each head's word begins with a letter and has no blank
 

@@ -5,7 +5,7 @@ use Rattle.std.proofs.lemmas.List.{at_drop_more, at_drop_all, length-replicate, 
 use Rattle.std.proofs.lemmas.Bool.{cond-true, cond-false, eqb-true, ne_eqb, eq-eqb}
 use Rattle.command.specs.Columns.{blanks, Stands}
 use Rattle.command.specs.Reads.{Reads}
-use Rattle.command.specs.Tokens.{Unblank, Numeric}
+use Rattle.command.specs.Tokens.{Numeric}
 use Rattle.command.specs.Written.{justified}
 
 pub one_blank_more : (s : List ℕ) (i : ℕ) → i < length s → slice_index s i ≡ 32 → blanks (drop i s) ≡ suc (blanks (drop (i + 1) s))

@@ -1,5 +1,5 @@
 -- A ledger line is its head's code and its operands, in one way.
-use Rattle.std.specs.Prelude.{◌≡◌, ℕ, suc, ◌+◌, ◌-◌, ◌^◌, ◌<◌, ◌≤◌, Bool, true, false, List, [], ◌∷◌, ◌++◌, length, take, drop, replicate, ℤ, pos, negsuc, Some, None, decimal, Option, ◌≢◌, nat_lt, refl}
+use Rattle.std.specs.Prelude.{◌≡◌, ℕ, ◌+◌, ◌-◌, ◌^◌, ◌<◌, ◌≤◌, Bool, true, false, List, ◌++◌, length, take, drop, replicate, ℤ, pos, negsuc, Some, None, decimal, Option, ◌≢◌, nat_lt, refl}
 use Rattle.std.proofs.Common.{sym, ap, ◌∙◌, subst, arith}
 use Rattle.std.specs.Int.Signed.{mag}
 use Rattle.std.proofs.lemmas.Fmt.{length-decimal-le, length_signed_le, decimal_injective, signed_decimal_injective}
@@ -9,12 +9,11 @@ use Rattle.std.specs.Fmt.{signed_decimal}
 use Rattle.command.specs.declared.command.Command.{Command}
 use Rattle.command.specs.declared.head.Head.{Head}
 use Rattle.command.specs.declared.head.Operands.{Operands}
-use Rattle.command.specs.declared.head.Operands.TheVariants as Operands
 use Rattle.command.specs.declared.head.Uses.{Uses}
 use Rattle.command.specs.Heads.{code, uses, used_by, operands, coded}
 use Rattle.command.specs.Meaning.{Writes, Apart}
 use Rattle.command.specs.Reads.{Reads}
-use Rattle.command.specs.Written.{numbers, NumberFits, LiteralFits, Suits, Proper, justified, ledger_operands, ledger_line}
+use Rattle.command.specs.Written.{NumberFits, LiteralFits, Suits, Proper, justified, ledger_operands, ledger_line}
 use Rattle.command.specs.ColumnsLemmas.{after_blanks}
 use Rattle.command.specs.Numeric.{numeric_natural, numeric_signed}
 use Rattle.command.specs.Operands.{literal_small, same_command, literals_writing}

@@ -3,7 +3,6 @@ use Rattle.std.specs.Prelude.{◌≡◌, ℕ, suc, ◌+◌, ◌<◌, ◌≤◌, 
 use Rattle.std.specs.Borrow.{Bor}
 use Rattle.command.specs.declared.command.Command.{Command}
 use Rattle.command.specs.declared.command.Content.{Content}
-use Rattle.command.specs.declared.command.Content.TheVariants as Content
 use Rattle.command.specs.declared.command.Item.{Item}
 use Rattle.command.specs.declared.head.Head.{Head}
 use Rattle.command.specs.declared.survey.Survey.{Survey}

@@ -1,11 +1,10 @@
 -- What is written of a number begins with a digit or a minus, and has no blank.
-use Rattle.std.specs.Prelude.{◌≡◌, ℕ, suc, ◌+◌, ◌^◌, ◌<◌, ◌≤◌, Bool, true, false, cond, ◌&&◌, ◌||◌, List, [], ◌∷◌, length, ℤ, pos, negsuc, decimal, ◌==◌, nat_le, refl}
-use Rattle.std.proofs.Common.{sym, ap, ◌∙◌, inl, inr, arith}
+use Rattle.std.specs.Prelude.{◌≡◌, ℕ, suc, ◌^◌, ◌<◌, ◌≤◌, cond, ◌&&◌, ◌||◌, List, [], ◌∷◌, length, ℤ, pos, negsuc, decimal, ◌==◌, nat_le, refl}
+use Rattle.std.proofs.Common.{◌∙◌, inl, inr, arith}
 use Rattle.std.specs.Int.Signed.{mag}
 use Rattle.std.proofs.lemmas.Fmt.{decimal_nonempty}
 use Rattle.std.proofs.lemmas.Bool.{cond-true, cond-false, or_from, and_left, and_from, lt-leb, le-leb}
 use Rattle.std.specs.Fmt.{signed_decimal}
-use Rattle.command.specs.declared.text.Sort.{Sort}
 use Rattle.command.specs.declared.text.Sort.TheVariants.{Letter, Digit, Minus, Blank, Other}
 use Rattle.command.specs.Tokens.{sort_of, Unblank, Numeric}
 use Rattle.command.specs.Numerals.{Digits, digits_of}

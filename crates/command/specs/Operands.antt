@@ -1,13 +1,13 @@
 -- The operands of a text line, one after the other.
-use Rattle.std.specs.Prelude.{◌≡◌, ℕ, suc, ◌+◌, ◌^◌, ◌<◌, ◌≤◌, Bool, true, false, List, [], ◌∷◌, ◌++◌, length, drop, ℤ, pos, negsuc, Some, None, decimal, Option, refl}
-use Rattle.std.proofs.Common.{sym, ap, ◌∙◌, subst, arith}
+use Rattle.std.specs.Prelude.{◌≡◌, ℕ, ◌^◌, ◌<◌, ◌≤◌, Bool, true, false, List, [], ◌++◌, length, drop, ℤ, pos, negsuc, Some, None, decimal, refl}
+use Rattle.std.proofs.Common.{sym, ap, ◌∙◌, arith}
 use Rattle.std.specs.Int.Signed.{mag}
 use Rattle.std.proofs.lemmas.Fmt.{decimal_injective, signed_decimal_injective}
 use Rattle.std.proofs.lemmas.List.{length-drop, drop_all}
 use Rattle.std.specs.Fmt.{signed_decimal}
 use Rattle.command.specs.declared.command.Command.{Command}
 use Rattle.command.specs.declared.head.Uses.{Uses}
-use Rattle.command.specs.Tokens.{Parted, Unblank, Numeric, Optional}
+use Rattle.command.specs.Tokens.{Parted, Numeric, Optional}
 use Rattle.command.specs.Written.{NumberFits, LiteralFits, Suits, field, text_operands}
 use Rattle.command.specs.Fields.{unblank_numeric}
 use Rattle.command.specs.Numeric.{numeric_natural, numeric_signed}

@@ -1,13 +1,13 @@
 -- A text line is its head's word and its operands, in one way.
-use Rattle.std.specs.Prelude.{◌≡◌, ℕ, List, [], ◌∷◌, ◌++◌, length, drop, Some, None, Option, refl}
-use Rattle.std.proofs.Common.{sym, ap, ◌∙◌, subst, arith}
+use Rattle.std.specs.Prelude.{◌≡◌, ℕ, List, ◌++◌, length, drop, Some, None, Option}
+use Rattle.std.proofs.Common.{sym, ap, ◌∙◌, subst}
 use Rattle.command.specs.declared.command.Command.{Command}
 use Rattle.command.specs.declared.head.Head.{Head}
 use Rattle.command.specs.declared.head.Uses.{Uses}
 use Rattle.command.specs.Heads.{code, word, uses}
 use Rattle.command.specs.Meaning.{Writes, Apart}
 use Rattle.command.specs.Reads.{Reads}
-use Rattle.command.specs.Tokens.{Parted, Unblank, Begins}
+use Rattle.command.specs.Tokens.{Parted, Begins}
 use Rattle.command.specs.Written.{Suits, Proper, text_operands, text_line}
 use Rattle.command.specs.Begins.{word_unblank}
 use Rattle.command.specs.Operands.{parted_operands, operands_apart}

@@ -1,11 +1,11 @@
 -- Bytes by their sorts, and the walk to the next blank.
-use Rattle.std.specs.Prelude.{◌≡◌, ℕ, zero, suc, ◌+◌, ◌-◌, ◌<◌, ◌≤◌, Bool, true, false, cond, ◌&&◌, ◌||◌, List, [], ◌∷◌, ◌++◌, length, take, drop, ◌==◌, ◌≢◌, nat_le, slice_index, slice_range, refl}
+use Rattle.std.specs.Prelude.{◌≡◌, ℕ, suc, ◌+◌, ◌-◌, ◌<◌, ◌≤◌, Bool, true, false, cond, ◌&&◌, ◌||◌, List, [], ◌∷◌, ◌++◌, length, take, drop, ◌==◌, ◌≢◌, nat_le, slice_index, slice_range, refl}
 use Rattle.std.proofs.Common.{sym, ap, ◌∙◌, subst, arith}
 use Rattle.std.proofs.lemmas.List.{at_drop_more, at_drop_all, drop_more, take_at, drop_at}
 use Rattle.std.proofs.lemmas.Bool.{cond-true, cond-false, eqb-true, ne_eqb, eq-eqb}
 use Rattle.command.specs.declared.text.Sort.{Sort}
 use Rattle.command.specs.declared.text.Sort.TheVariants.{Letter, Digit, Minus, Blank, Other}
-use Rattle.command.specs.Tokens.{sort_of, run, by_first, token_from, Parted, Unblank, Numeric}
+use Rattle.command.specs.Tokens.{sort_of, run, by_first, token_from, Parted, Unblank}
 
 blank_last : (l d m k : Bool) → cond l Letter (cond d Digit (cond m Minus (cond k Blank Other))) ≡ Blank → k ≡ true
 blank_last true d m k e = let z : ◌≡◌ {A = ℕ} 0 1 = cc in absurd (omega arith)

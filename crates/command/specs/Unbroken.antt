@@ -1,17 +1,16 @@
 -- No written line has a byte 10 in it.
-use Rattle.std.specs.Prelude.{◌≡◌, ℕ, zero, suc, ◌-◌, ◌^◌, ◌<◌, ◌≤◌, Bool, true, false, not, ◌&&◌, List, [], ◌∷◌, ◌++◌, length, replicate, ℤ, pos, negsuc, decimal, ◌==◌, refl}
+use Rattle.std.specs.Prelude.{◌≡◌, ℕ, zero, suc, ◌-◌, ◌^◌, ◌<◌, Bool, true, false, not, ◌&&◌, List, [], ◌∷◌, ◌++◌, length, replicate, ℤ, pos, negsuc, decimal, ◌==◌, refl}
 use Rattle.std.proofs.Common.{arith}
 use Rattle.std.specs.Int.Signed.{mag}
 use Rattle.std.proofs.lemmas.Bool.{eqb-false, and_parts, not-true}
 use Rattle.std.specs.Fmt.{signed_decimal}
-use Rattle.command.specs.declared.command.Command.{Command}
 use Rattle.command.specs.declared.head.Head.{Head}
 use Rattle.command.specs.Heads.{code, word, uses}
 use Rattle.command.specs.Lines.{Unbroken, LinesUnbroken}
 use Rattle.command.specs.Written.{NumberFits, LiteralFits, field, text_operands, text_line, justified, ledger_operands, ledger_line}
 use Rattle.command.specs.LedgerLines.{numbers_small, code_small}
 use Rattle.command.specs.Numerals.{Digits, digits_of}
-use Rattle.command.specs.Operands.{literal_small, literals_writing}
+use Rattle.command.specs.Operands.{literal_small}
 use Rattle.command.specs.Words.{passes}
 
 unbroken_append : (u v : List ℕ) → Unbroken u → Unbroken v → Unbroken (u ++ v)

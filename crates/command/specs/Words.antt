@@ -1,11 +1,10 @@
 -- Every head is found by its code and by its word.
-use Rattle.std.specs.Prelude.{◌≡◌, ℕ, suc, ◌+◌, ◌<◌, ◌≤◌, Bool, true, false, cond, not, ◌&&◌, ◌||◌, ◌↔◌, List, [], ◌∷◌, ◌++◌, length, Some, None, Option, ◌==◌, refl}
+use Rattle.std.specs.Prelude.{◌≡◌, ℕ, Bool, true, false, cond, ◌&&◌, List, [], ◌∷◌, Some, None, Option, ◌==◌, refl}
 use Rattle.std.proofs.Common.{sym, ap, ◌∙◌, arith}
 use Rattle.std.proofs.lemmas.Slice.Eq.{bytes_eq-Decides}
-use Rattle.std.proofs.lemmas.Bool.{eqb-true, eqb-false, eq-eqb, ne_eqb, and_parts, cases_Bool, lt-leb, not-true}
+use Rattle.std.proofs.lemmas.Bool.{eqb-true, and_parts}
 use Rattle.std.specs.Str.{bytes_eq}
-use Rattle.command.specs.declared.text.Sort.{Sort}
-use Rattle.command.specs.declared.text.Sort.TheVariants.{Letter, Digit, Minus, Blank, Other}
+use Rattle.command.specs.declared.text.Sort.TheVariants.{Minus}
 use Rattle.command.specs.declared.head.Head.{Head}
 use Rattle.command.specs.declared.head.Head.TheVariants.{Thing, Number, Pred, Var, Nil, Cons, App, Lit, Add, Minus, False, Implies, And, Or}
 use Rattle.command.specs.declared.head.Head.TheVariants.{Neg, Eq, Leq, Forall, Id, Skip, Skol, Recand, Recor, Recnor, Recnand, Recnn, Hyp, Known}
@@ -13,7 +12,6 @@ use Rattle.command.specs.declared.head.Head.TheVariants.{Assume, Mp, Absurd, Nnp
 use Rattle.command.specs.declared.head.Head.TheVariants.{Elimnot, Inst, Sum, Atmost, Cancel, Swap, Eqleq, Leqtrans, Pair, Query, Initial, Let, Same, Shows}
 use Rattle.command.specs.declared.head.Head.TheVariants.{Final}
 use Rattle.command.specs.Heads.{code, word, heads, coded, coded_among, worded, spelled_among, Named}
-use Rattle.command.specs.Tokens.{sort_of, Unblank}
 
 -- each of these is found by its code
 pub coded_code : (h : Head) → coded (code h) ≡ Some h

@@ -1,4 +1,6 @@
 // Commands, their written forms, and readers of files of commands.
+#![tactic(auto)]
+
 pub mod command;
 pub mod form;
 pub mod head;

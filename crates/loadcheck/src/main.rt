@@ -1,4 +1,6 @@
 // Says what query.txt and proof.txt of the working folder hold, and shows the rules at work on examples.
+#![tactic(auto)]
+
 mod kept;
 
 use command::form::{Form, Ledger, Text};

@@ -1,11 +1,10 @@
 -- What a class of terms shows, and that a tree read as a term is the term's tree.
 use Rattle.std.proofs.Common.{◌≡◌, ℕ, ◌⊎◌, sym, refl, ap, ◌∙◌, ap₂, inl, inr}
 use mathlib.Core.Option.{Option, none, some, none-ne-some, some-injective}
-use Rattle.logic.specs.Syntax.{Thing, Things, Number, Formula, Plan, Proof, equal, at_most, eq_things, relate}
-use Rattle.logic.specs.Tree.{Kind, Leaf, Unary, Binary, Tree, leaf, unary, binary, thing_tree, things_tree, number_tree, formula_tree, plan_tree, proof_tree}
+use Rattle.logic.specs.Syntax.{Thing, Things, Number, Formula, Plan, Proof}
+use Rattle.logic.specs.Tree.{Kind, Leaf, Unary, Binary, Tree, leaf, unary, binary, things_tree}
 use Rattle.logic.specs.Terms.{Term, of_thing, of_things, of_number, of_formula, of_plan, of_proof, term_tree, as_thing, as_things, as_number, as_formula, as_plan, as_proof}
 use Rattle.logic.specs.Terms.{one, two, or_else, leaf_term, applied, unary_term, binary_term, tree_term}
-use Rattle.logic.specs.Rules.{◌>>=◌}
 use Rattle.logic.proofs.RulesAre.{bound}
 
 pub is_thing : (t : Term) (x : Thing) → as_thing t ≡ some x → t ≡ of_thing x

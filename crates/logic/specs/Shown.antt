@@ -1,10 +1,9 @@
 -- The worked examples as text: each question, and what the rules answer.
-use Rattle.std.specs.Prelude.{ℕ, suc, Bool, true, false, cond, List, [], ◌∷◌, ◌++◌, ℤ, pos, negsuc, codes, decimal, ◌==◌}
+use Rattle.std.specs.Prelude.{ℕ, Bool, true, false, cond, List, [], ◌∷◌, ◌++◌, codes, decimal, ◌==◌}
 use Prim.Native.String.{String}
 use Rattle.std.proofs.Math.Option.{Option, none, some}
 use Rattle.std.specs.Fmt.{signed_decimal}
 use Rattle.logic.specs.Syntax.{Thing, Things, Number, Connective, Relation, Formula, OneSided, TwoSided, Plan, OnePremise, TwoPremises, Proof}
-use Rattle.logic.specs.Arithmetic.{Arithmetic}
 use Rattle.logic.specs.Rules.{conclude}
 use Rattle.logic.specs.Facts.{Fact, Stated, state}
 use Rattle.logic.specs.Plans.{turn, symbols, distinct}

@@ -1,4 +1,6 @@
 // The theorems of the load check's logic: each function's contract is one of them.
+#![tactic(auto)]
+
 ghost use Rattle.std.specs.Prelude.{◌≡◌};
 ghost use Rattle.logic.specs.Examples.{ExamplesComeOut};
 ghost use Rattle.logic.specs.Mistakes.{BoundsOverCountsDoNotAdd, UnraisedSubstitutionIsWrong, SharedSkolemSymbolIsWrong};

@@ -4,9 +4,9 @@ use Rattle.command.specs.declared.head.Head.{Head}
 use Rattle.command.specs.Heads.{code, coded}
 use Rattle.command.specs.Words.{passes, coded_names}
 use Rattle.std.specs.declared.option.Option as Rust
-use Rattle.std.proofs.Common.{◌≡◌, ℕ, suc, Bool, true, false, ◌&&◌, eqb, ltb, leb, List, [], ◌∷◌, length, Some, None, sym, refl, ap, ◌∙◌, subst, inl, inr}
+use Rattle.std.proofs.Common.{◌≡◌, ℕ, suc, Bool, true, false, ◌&&◌, ltb, leb, List, [], ◌∷◌, length, Some, None, refl, ap, subst}
 use mathlib.Core.Option.{Option, none, some, none-ne-some, some-injective}
-use Rattle.std.proofs.lemmas.Bool.{and_parts, cases_Bool, cond-true, cond-false, eqb-true, both_ways}
+use Rattle.std.proofs.lemmas.Bool.{and_parts, both_ways}
 use Rattle.logic.specs.Syntax.{Formula, Plan, Proof, falsity, same}
 use Rattle.logic.specs.Tree.{Tree, formula_tree, parts}
 use Rattle.logic.specs.Arithmetic.{Arithmetic}
@@ -15,7 +15,7 @@ use Rattle.logic.specs.Facts.{Stated}
 use Rattle.logic.specs.Plans.{Walked, misfit, yields, walk}
 use Rattle.logic.specs.Positions.{conclusions}
 use Rattle.logic.specs.Closed.{closed}
-use Rattle.model.specs.Refusal.{Refusal, unknown, untimely, unnamed, miscounted, unclosed, oversized, crowded, unfounded, unfit, stale, different, unadmitted, uncarried, unrefuted, positioned, Outcome, done, refused, ◌>>=◌, require, require_at, need}
+use Rattle.model.specs.Refusal.{Refusal, unknown, untimely, unnamed, miscounted, unclosed, oversized, crowded, unfounded, unfit, stale, different, unadmitted, unrefuted, positioned, Outcome, done, refused, ◌>>=◌, require, require_at, need}
 use Rattle.model.specs.Limits.{Limits, Room, within}
 use Rattle.model.specs.State.{Names, State, known_at, formula_at, plan_at, proof_at, thing_arity, keep, keep_each}
 use Rattle.model.specs.Commands.{Maker, Action, a_symbol, a_term, a_deduction, a_fact, a_query, an_initial, a_let, a_same, a_shows, a_final, action, acting, action_of, made, named_fact}

@@ -9,9 +9,7 @@ use Rattle.logic.specs.Tree.{Kind, thing, number, predicate, Tree, formula_tree,
 use Rattle.logic.specs.Arithmetic.{Arithmetic, Lawful}
 use Rattle.logic.specs.World.{World, Holds, Rereads}
 use Rattle.logic.specs.Rules.{conclude}
-use Rattle.logic.specs.Facts as Facts
 use Rattle.logic.specs.Plans.{Fresh, symbols, member, distinct}
-use Rattle.logic.specs.Closed.{closed}
 use Rattle.logic.proofs.RulesAre.{concluded as concludes}
 use Rattle.logic.proofs.PlansAre.{turned}
 use Rattle.logic.proofs.FactsAre.{fact_stated}

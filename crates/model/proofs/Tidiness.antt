@@ -7,9 +7,7 @@ use Rattle.std.proofs.lemmas.Bool.{cases_Bool, or_cases, or_left, or_right, cond
 use Rattle.logic.specs.Syntax.{Formula}
 use Rattle.logic.specs.Tree.{Tree, leaf, unary, binary, same_tree, operands, parts, formula_tree}
 use Rattle.logic.specs.Arithmetic.{Arithmetic}
-use Rattle.logic.specs.Facts as Facts
 use Rattle.logic.specs.Positions.{conclusions}
-use Rattle.logic.specs.Closed.{closed}
 use Rattle.logic.proofs.Trees.{same_tree_true}
 use Rattle.model.specs.Refusal.{Outcome, done, refused}
 use Rattle.model.specs.Limits.{Limits, Room}

@@ -1,6 +1,6 @@
 -- Every refutation given as trees is written out by the writer.
 use Rattle.command.specs.declared.command.Command.{Command}
-use Rattle.std.proofs.Common.{◌≡◌, ℕ, zero, suc, ◌+◌, Bool, true, false, ◌&&◌, ltb, ◌⊎◌, List, [], ◌∷◌, ◌++◌, length, get_or, sym, refl, ap, ◌∙◌, subst, inl, inr, append_assoc, append-nil, arith, length-append}
+use Rattle.std.proofs.Common.{◌≡◌, ℕ, zero, suc, ◌+◌, Bool, true, ◌&&◌, ltb, ◌⊎◌, List, [], ◌∷◌, ◌++◌, length, get_or, sym, refl, ap, ◌∙◌, subst, inl, inr, append_assoc, append-nil, arith, length-append}
 use mathlib.Core.Bool.{false≢true}
 use mathlib.Core.Option.{Option, none, some, none-ne-some, some-injective}
 use lib.ListN.{get_elem?}
@@ -21,7 +21,6 @@ use Rattle.logic.proofs.Hypotheses.{hypotheses_within}
 use Rattle.model.specs.State.{Symbol, Result, symbol, term, fact, nothing, Names, no_names, with_result, with_symbol, next_number, the_symbol, the_fact, symbol_at, known_at, thing_arity}
 use Rattle.model.specs.Commands.{plain, action_of, a_symbol}
 use Rattle.model.specs.Tests.{each, fact_operands}
-use Rattle.model.specs.Written as Written
 use Rattle.model.specs.Written.{writes_term, writes_deduction, Line, named, named_each, Rightly, LinesWritten, Asking, EachAsking, WrittenOut}
 use Rattle.model.specs.Writer.{StatedFact, Refutation, only_symbols, known_in, passes_by_head, proper, FactsHold, IsRefutation, leaf_command, unary_command, binary_code, stands_in, number_of, line, makes_term, unless, write, write_each}
 use Rattle.model.specs.Writer.{symbol_code, symbol_lines, fact_terms, at_fact, fact_lines, fact_numbers, renumbered, numbers_known, at_query, asked, before, plan_lines, at_initial, begun, after_facts, proof_written, at_end, write_out}

@@ -3,7 +3,6 @@ use Rattle.command.specs.declared.command.Command.{Command}
 use Rattle.std.specs.Prelude.{ℕ, ℤ, pos, Some, None}
 use Rattle.std.specs.declared.option.Option as Rust
 use Rattle.command.specs.declared.head.Head.{Head}
-use Rattle.command.specs.declared.head.Head.TheVariants as Head
 use Rattle.command.specs.Heads.{coded}
 use Rattle.std.proofs.Math.Option.{Option, none, some}
 use Rattle.std.proofs.Math.ListN.{get_elem?}

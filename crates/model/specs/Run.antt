@@ -2,7 +2,6 @@
 use Rattle.command.specs.declared.command.Content.{Content}
 use Rattle.command.specs.declared.command.Content.TheVariants.{Command as command, Spoiled as spoiled}
 use Rattle.command.specs.declared.command.Item.{Item}
-use Rattle.command.specs.declared.command.Command.{Command}
 use Rattle.std.specs.Prelude.{ℕ, suc, Bool, true, false, List, [], ◌∷◌}
 use Rattle.std.proofs.Math.Option.{Option, none, some}
 use Rattle.logic.specs.Syntax.{Formula}

@@ -1,4 +1,6 @@
 // The theorems of the session: each function's contract is one of them.
+#![tactic(auto)]
+
 ghost use Rattle.model.specs.Examples.{ExamplesComeOut, ExampleStands};
 ghost use Rattle.model.specs.Theorems.{KnownFormulasHold, InitialFormulasHoldAfterRereading, RefutedQueriesHoldNowhere, RunsAreFolds, AcceptedQueriesHoldNowhere, LetAndInitialAreExact, RefusalsArePlain, SessionsAreTidy};
 ghost use Rattle.model.specs.Writer.{RefutationsCanBeWrittenOut};

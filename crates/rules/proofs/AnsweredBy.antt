@@ -1,15 +1,15 @@
 -- The answer of a call that keeps what a fact states, from the tests before it and from what making did.
-use Rattle.std.proofs.Common.{◌≡◌, ℕ, ◌<◌, ◌≤◌, Bool, true, false, ◌&&◌, leb, List, length, Ok, Err, Result, sym, refl, ap, ◌∙◌, subst, ap₂, arith, MatchResult}
+use Rattle.std.proofs.Common.{◌≡◌, ℕ, ◌<◌, ◌≤◌, Bool, true, false, ◌&&◌, leb, length, Ok, Err, Result, sym, refl, ap, ◌∙◌, subst, ap₂, arith, MatchResult}
 use Rattle.std.proofs.lemmas.Bool.{le-leb, lt-leb}
 use Rattle.std.proofs.lemmas.List.{take_all}
 use Rattle.logic.specs.Syntax.{Formula}
 use Rattle.logic.specs.Syntax as syntax
-use Rattle.logic.specs.Tree.{Tree, formula_tree, size, foralls, assumptions, parts}
+use Rattle.logic.specs.Tree.{formula_tree, size, foralls, assumptions, parts}
 use Rattle.logic.specs.Arithmetic.{Arithmetic}
 use Rattle.logic.specs.Facts as Facts
 use Rattle.logic.specs.Facts.{Fact, Stated}
 use Rattle.model.specs.Limits.{limits, within, own_index_within}
-use Rattle.model.specs.Refusal.{Outcome, done, refused, ◌>>=◌, oversized, crowded}
+use Rattle.model.specs.Refusal.{refused, ◌>>=◌}
 use Rattle.model.specs.Session.{stated}
 use Rattle.model.specs.State as model
 use Rattle.table.specs.declared.Full.{Full}
@@ -20,7 +20,6 @@ use Rattle.terms.specs.Outcome.{entries, count, room, trees, WellFormed, Did}
 use Rattle.terms.proofs.Meanings.{trees_length}
 use Rattle.terms.proofs.Making.{count_within}
 use Rattle.rules.specs.declared.refusal.Reason.{Reason}
-use Rattle.rules.specs.declared.refusal.Reason.TheVariants as Reason
 use Rattle.rules.specs.Refusals.{refusal}
 use Rattle.rules.specs.Answering.{formula_kept, fact_kept, Answered}
 use Rattle.rules.proofs.Flat.{Flat, keep_each_same}

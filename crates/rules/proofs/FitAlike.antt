@@ -4,11 +4,11 @@ use mathlib.Core.Bool.{decide}
 use mathlib.Core.Option.{Option, none, some}
 use Rattle.logic.specs.Syntax.{Thing, Formula, Connective, OneSided, TwoSided, Plan, implication, conjunction, disjunction, falsity, connect, neg, eq_things, relate, atom, forall, same}
 use Rattle.logic.specs.Syntax.{id, step, fork, skip, skol, recnn, recand, recor, recnor, recnand, apply}
-use Rattle.logic.specs.Substitution.{put, raise, instance_of}
+use Rattle.logic.specs.Substitution.{put, raise}
 use Rattle.logic.specs.Rules.{when, left, right}
 use Rattle.logic.specs.Plans.{Walked, misfit, yields, walk, inner, two_inner, takes, inner_scope, scope, around, around_both, if_fits, rebuilt, rejoined}
 use Rattle.logic.proofs.RulesAre.{same_refl}
-use Rattle.rules.specs.Fitting.{skeleton, Fit, misfits, fits, fit_of, under_head, under_fork, if_some, met_by, plan_fit}
+use Rattle.rules.specs.Fitting.{skeleton, Fit, fit_of, under_head, under_fork, if_some, met_by, plan_fit}
 
 -- putting a thing for a variable leaves the shape
 pub put_skeleton : (k : ℕ) (t : Thing) (φ : Formula) → skeleton (put k t φ) ≡ skeleton φ

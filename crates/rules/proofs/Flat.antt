@@ -1,5 +1,5 @@
 -- Number terms, and formulas that only relate them, have no binder.
-use Rattle.std.proofs.Common.{◌≡◌, ℕ, suc, max, cond, ◌||◌, List, [], ◌∷◌, ◌++◌, refl, ap, ◌∙◌, ap₂, arith}
+use Rattle.std.proofs.Common.{◌≡◌, max, cond, ◌||◌, List, [], ◌∷◌, ◌++◌, refl, ap, ◌∙◌, ap₂}
 use Rattle.logic.specs.Syntax.{Thing, Things, Number, Relation, Formula, equal, at_most, relate, implies, neg}
 use Rattle.logic.specs.Tree.{Tree, same_tree, foralls, assumptions, thing_tree, things_tree, number_tree, formula_tree}
 use Rattle.terms.specs.Keeping as terms

@@ -1,5 +1,5 @@
 -- What is known and what is on the stack, over a table that has grown.
-use Rattle.std.proofs.Common.{◌≡◌, ℕ, ◌<◌, ◌≤◌, List, get_or, take, refl, ap, ◌∙◌, arith}
+use Rattle.std.proofs.Common.{◌≡◌, ℕ, ◌<◌, ◌≤◌, List, get_or, take, refl, ap, arith}
 use mathlib.Core.Path.{fun_ext}
 use mathlib.Core.Option.{some}
 use Rattle.std.specs.declared.option.Option as std

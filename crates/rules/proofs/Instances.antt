@@ -1,6 +1,6 @@
 -- What keeping an instance asks of the table, and after another call still asks.
-use Rattle.std.proofs.Common.{◌≡◌, ℕ, ◌+◌, ◌^◌, ◌<◌, ◌≤◌, true, sym, refl, ap, ◌∙◌, subst, ap₂, arith}
-use Rattle.logic.specs.Tree.{Tree, Binary, binary, size, foralls, open_indices, put_tree, put_size}
+use Rattle.std.proofs.Common.{◌≡◌, ℕ, ◌+◌, ◌^◌, ◌<◌, ◌≤◌, true, ap, ◌∙◌, ap₂, arith}
+use Rattle.logic.specs.Tree.{size, foralls, open_indices, put_tree, put_size}
 use Rattle.logic.proofs.Trees.{put_tree_size}
 use Rattle.terms.specs.declared.Terms.{Terms}
 use Rattle.terms.specs.Meaning.{largest}

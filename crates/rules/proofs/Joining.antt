@@ -1,7 +1,7 @@
 -- One part after another.
-use Rattle.std.proofs.Common.{◌≡◌, ℕ, ◌<◌, ◌≤◌, true, List, [], ◌∷◌, ◌++◌, is_err, Ok, Err, Result, sym, refl, ap, ◌∙◌, subst, ap₂, MatchResult}
+use Rattle.std.proofs.Common.{◌≡◌, ℕ, ◌<◌, ◌≤◌, true, [], ◌∷◌, ◌++◌, is_err, Ok, Err, Result, sym, refl, ap, subst, ap₂}
 use Rattle.std.proofs.lemmas.List.{append_assoc}
-use Rattle.logic.specs.Tree.{Tree, Unary, Binary, leaf, unary, binary, parts, size}
+use Rattle.logic.specs.Tree.{Tree, Binary, unary, binary, parts, size}
 use Rattle.table.specs.declared.Full.{Full}
 use Rattle.terms.specs.declared.Terms.{Terms}
 use Rattle.terms.specs.Heads.{unary_head, binary_head}

@@ -1,12 +1,12 @@
 -- Number terms that are literals, and their sums.
-use Rattle.std.proofs.Common.{◌≡◌, ℕ, Bool, true, false, cond, ◌&&◌, ◌⊎◌, ℤ, is_some, Some, None, Option, sym, refl, ap, ◌∙◌, subst, inl, inr, arith}
+use Rattle.std.proofs.Common.{◌≡◌, true, false, cond, ℤ, is_some, Some, None, Option, sym, refl, ap, ◌∙◌, subst, inl, inr, arith}
 use Rattle.std.proofs.lemmas.Bool.{cases_Bool}
-use Rattle.logic.specs.Syntax.{Number, Formula, lit, add, minus, measure, eq_numbers, leq, neg}
-use Rattle.logic.specs.Tree.{Tree, Leaf, leaf, unary, binary, number_tree, size, literals_pass}
+use Rattle.logic.specs.Syntax.{Number, lit, add, minus, measure, eq_numbers, leq, neg}
+use Rattle.logic.specs.Tree.{Tree, leaf, unary, binary, number_tree, size, literals_pass}
 use Rattle.logic.specs.Arithmetic.{Arithmetic}
 use Rattle.logic.specs.Facts.{Stated, misshapen, unadmitted, formula, of_literal, state, sum, atmost}
 use Rattle.arithmetic.specs.Literals.{literal_sum}
-use Rattle.rules.specs.Shapes.{literal, leaf_literal}
+use Rattle.rules.specs.Shapes.{literal}
 
 some_not_none : {X : Type 0} (x : X) → Some x ≡ None → ⊥
 some_not_none x e = absurd (true_not_false (ap is_some e))

@@ -1,12 +1,12 @@
 -- The measures of a conclusion that is not kept yet.
-use Rattle.std.proofs.Common.{◌≡◌, ℕ, ◌+◌, ◌*◌, ◌^◌, ◌<◌, ◌≤◌, max, true, ◌&&◌, leb, sym, refl, ap, ◌∙◌, subst, ap₂, arith}
+use Rattle.std.proofs.Common.{◌≡◌, ℕ, ◌<◌, ◌≤◌, max, true, ◌&&◌, leb, sym, ap, ◌∙◌, subst, ap₂, arith}
 use Rattle.std.proofs.lemmas.Bool.{and_parts, leb-true}
-use Rattle.logic.specs.Tree.{Tree, size, foralls, open_indices, put_tree, put_size}
-use Rattle.logic.proofs.Trees.{put_tree_size, put_tree_foralls}
+use Rattle.logic.specs.Tree.{Tree, size, foralls, open_indices, put_size}
+use Rattle.logic.proofs.Trees.{put_tree_foralls}
 use Rattle.terms.specs.declared.Terms.{Terms}
 use Rattle.terms.specs.Classes.{tree_class}
 use Rattle.terms.specs.Meaning.{largest}
-use Rattle.terms.specs.Outcome.{entries, count, tree, WellFormed}
+use Rattle.terms.specs.Outcome.{count, tree, WellFormed}
 use Rattle.terms.proofs.Putting.{put_size_bound}
 use Rattle.terms.proofs.Reading.{foralls_below}
 use Rattle.rules.specs.declared.conclusions.Conclusion.{Conclusion}

@@ -1,16 +1,15 @@
 -- What settling a sub-proof's conclusion answers: no fit, over a limit, or kept.
-use Rattle.std.proofs.Common.{◌≡◌, ℕ, suc, ◌+◌, ◌<◌, ◌≤◌, Bool, true, false, leb, List, length, take, Ok, Err, sym, refl, ap, ◌∙◌, subst, ap₂, arith}
+use Rattle.std.proofs.Common.{◌≡◌, ℕ, suc, ◌+◌, ◌≤◌, true, false, leb, List, length, Ok, Err, sym, refl, ap, ◌∙◌, ap₂, arith}
 use mathlib.Core.Option.{Option, none, some}
 use Rattle.std.proofs.lemmas.List.{take_all}
 use Rattle.std.proofs.lemmas.Bool.{le-leb}
 use Rattle.logic.specs.Tree.{Tree, parts}
-use Rattle.model.specs.Refusal.{oversized, crowded, unfounded, Outcome, done, refused, ◌>>=◌, ◌>>◌, require_at}
+use Rattle.model.specs.Refusal.{oversized, crowded, Outcome, done, refused, ◌>>◌, require_at}
 use Rattle.terms.specs.declared.Terms.{Terms}
 use Rattle.terms.specs.Keeping.{keep_each}
 use Rattle.terms.specs.Outcome.{entries, count, room, trees, tree, WellFormed, Did}
 use Rattle.terms.proofs.Meanings.{trees_length}
 use Rattle.terms.proofs.Making.{count_within}
-use Rattle.rules.specs.declared.conclusions.Concluded.{Concluded}
 use Rattle.rules.specs.declared.refusal.Refused.{Refused}
 use Rattle.rules.specs.declared.refusal.Reason.TheVariants as Reason
 use Rattle.rules.specs.Forms.{small}

@@ -1,14 +1,14 @@
 -- One sub-proof after another: what the calls answer together.
-use Rattle.std.proofs.Common.{◌≡◌, ℕ, ◌<◌, ◌≤◌, min, List, ◌++◌, length, take, drop, Ok, Err, Result, sym, refl, ap, ◌∙◌, subst, ap₂, arith, take-append-drop, length-take}
-use Rattle.model.specs.Refusal.{Outcome, done, refused, ◌>>=◌}
+use Rattle.std.proofs.Common.{◌≡◌, ℕ, ◌<◌, ◌≤◌, ◌++◌, length, take, drop, Ok, Err, Result, sym, ap, ◌∙◌, arith, take-append-drop, length-take}
+use Rattle.model.specs.Refusal.{Outcome, ◌>>=◌}
 use Rattle.terms.specs.declared.Terms.{Terms}
 use Rattle.terms.specs.Meaning.{tree_of}
-use Rattle.terms.specs.Outcome.{entries, count, room, trees, tree}
+use Rattle.terms.specs.Outcome.{entries, count, trees, tree}
 use Rattle.terms.proofs.Meanings.{tree_front}
 use Rattle.terms.proofs.Outcomes.{front_then}
 use Rattle.rules.specs.declared.conclusions.Concluded.{Concluded}
 use Rattle.rules.specs.declared.refusal.Refused.{Refused}
-use Rattle.rules.specs.Walk.{Found, answered, Answers}
+use Rattle.rules.specs.Walk.{Found, Answers}
 
 -- what stands in front makes the table no shorter
 pub no_shorter : (old new : Terms) → take (count old) (entries new) ≡ entries old → count old ≤ count new

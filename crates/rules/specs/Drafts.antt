@@ -1,5 +1,5 @@
 -- The parts of a formula that is still to be made, by the trees that they become.
-use Rattle.std.specs.Prelude.{ℕ, ◌<◌}
+use Rattle.std.specs.Prelude.{◌<◌}
 use Rattle.logic.specs.Tree.{Tree, leaf, unary, binary, lit}
 use Rattle.terms.specs.declared.Terms.{Terms}
 use Rattle.terms.specs.Heads.{unary_head, binary_head}

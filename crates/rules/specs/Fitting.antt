@@ -1,8 +1,8 @@
 -- Whether a plan fits a formula, decided on the formula as it stands: nothing is put for a variable.
-use Rattle.std.specs.Prelude.{ℕ, suc, ◌+◌, Bool, ◌&&◌}
+use Rattle.std.specs.Prelude.{ℕ, suc, ◌+◌, ◌&&◌}
 use Rattle.std.proofs.Math.Option.{Option, none, some}
-use Rattle.logic.specs.Syntax.{Formula, OneSided, TwoSided, Plan, falsity, connect, neg, eq_things, relate, atom, forall, same, id, step, fork, skip, skol, recnn}
-use Rattle.logic.specs.Rules.{when, left, right}
+use Rattle.logic.specs.Syntax.{Formula, OneSided, Plan, falsity, connect, neg, eq_things, relate, atom, forall, same, id, step, fork, skip, skol, recnn}
+use Rattle.logic.specs.Rules.{when, left}
 use Rattle.logic.specs.Plans.{Walked, misfit, yields, takes, inner_scope, two_inner}
 
 -- the formula's shape: what its heads are down to its atoms

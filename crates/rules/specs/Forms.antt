@@ -1,5 +1,5 @@
 -- What a rule concludes of the trees of its premises: the rules by the shapes of the premises.
-use Rattle.std.specs.Prelude.{ℕ, Bool, true, false, cond, ◌&&◌, nat_le}
+use Rattle.std.specs.Prelude.{Bool, true, false, cond, ◌&&◌, nat_le}
 use Rattle.std.proofs.Math.Option.{Option, none, some}
 use Rattle.logic.specs.Syntax as syntax
 use Rattle.logic.specs.Tree as trees

@@ -1,7 +1,6 @@
 -- The reasons of the code, as the refusals of a session.
 use Rattle.model.specs.Refusal.{Refusal, oversized, crowded, unfounded, unfit, stale, unadmitted, uncarried}
 use Rattle.rules.specs.declared.refusal.Reason.{Reason}
-use Rattle.rules.specs.declared.refusal.Reason.TheVariants as Reason
 
 abbrev pub refusal : Reason → Refusal
 refusal Reason.Oversized = oversized

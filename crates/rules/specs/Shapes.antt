@@ -1,6 +1,6 @@
 -- What a fact reads off its operands.
-use Rattle.std.specs.Prelude.{Bool, ℤ, Some, None, Option}
-use Rattle.logic.specs.Tree.{Leaf, Unary, Binary, Tree, leaf, unary, binary}
+use Rattle.std.specs.Prelude.{ℤ, Some, None, Option}
+use Rattle.logic.specs.Tree.{Leaf, Tree, leaf, unary, binary}
 
 abbrev pub leaf_literal : Leaf → Option ℤ
 leaf_literal (Leaf.var i) = None

@@ -1,6 +1,6 @@
 -- What a proof's tree concludes, sub-proof by sub-proof, with the terms kept on the way: the first that does not fit, is over a limit
 -- or has no space is refused at its position.
-use Rattle.std.specs.Prelude.{◌≡◌, ℕ, suc, ◌+◌, ◌<◌, Bool, true, false, List, [], ◌∷◌, length, take, IfOk, Ok, Err, Result, nat_le}
+use Rattle.std.specs.Prelude.{◌≡◌, ℕ, suc, ◌<◌, List, ◌∷◌, length, take, IfOk, Ok, Err, Result, nat_le}
 use Rattle.std.proofs.Math.Option.{Option, none, some}
 use Rattle.std.proofs.Math.ListN.{get_elem?}
 use Rattle.logic.specs.Syntax as syntax

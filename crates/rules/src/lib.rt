@@ -1,4 +1,6 @@
 // The rules on the table: conclusions, Skolemisation, facts.
+#![tactic(auto)]
+
 pub mod conclusions;
 pub mod draft;
 pub mod facts;

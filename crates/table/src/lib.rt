@@ -1,4 +1,6 @@
 // A table over a lent slice that keeps each entry once.
+#![tactic(auto)]
+
 ghost use Rattle.std.specs.Prelude.{◌≡◌, ◌<◌, ◌≤◌, Bool, true, false, [], ◌∷◌, ◌++◌, length, take, MatchResult};
 ghost use Rattle.std.specs.List.{slice_get};
 ghost use Rattle.table.specs.Contents.{kept, places};

@@ -1,5 +1,5 @@
 -- One call that keeps terms after another: "then", the exit of a `?`, a head over one operand and over two.
-use Rattle.std.proofs.Common.{◌≡◌, ℕ, ◌+◌, ◌<◌, ◌≤◌, true, List, [], ◌++◌, length, take, is_err, Ok, Err, Result, sym, refl, ap, ◌∙◌, subst, ap₂, arith, MatchResult}
+use Rattle.std.proofs.Common.{◌≡◌, ℕ, ◌<◌, ◌≤◌, true, List, [], ◌++◌, length, take, is_err, Ok, Err, Result, sym, refl, ap, ◌∙◌, subst, ap₂, arith, MatchResult}
 use Rattle.std.proofs.lemmas.List.{append_assoc, take_all, take-take, get_or_append_left}
 use Rattle.logic.specs.Tree.{Tree, Unary, Binary, leaf, unary, binary, nil, parts, size}
 use Rattle.table.specs.declared.Full.{Full}

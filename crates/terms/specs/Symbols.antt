@@ -1,5 +1,5 @@
 -- The symbols that a plan names.
-use Rattle.std.specs.Prelude.{ℕ, Bool, true, false, Ok, Err, Result, ◌==◌}
+use Rattle.std.specs.Prelude.{Bool, true, false, Ok, Err, Result, ◌==◌}
 use Rattle.table.specs.declared.Full.{Full}
 use Rattle.table.specs.declared.Place.{Place}
 use Rattle.table.specs.declared.Place.TheVariants.{Found, Added}

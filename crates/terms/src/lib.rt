@@ -1,4 +1,6 @@
 // Terms of every class, each kept once.
+#![tactic(auto)]
+
 ghost use Rattle.std.specs.Prelude.{◌≡◌, ◌+◌, ◌^◌, ◌<◌, ◌≤◌, [], length, take};
 ghost use Rattle.logic.specs.Tree.{leaf, unary, binary, size, open_indices, open_hypotheses, foralls, assumptions, raise_tree, put_tree, put_late, put_size, stands};
 ghost use Rattle.terms.specs.Classes.{tree_class};

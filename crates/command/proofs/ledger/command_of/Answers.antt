@@ -1,6 +1,6 @@
-use Rattle.std.proofs.Common.{sym, ◌∙◌, arith, rules}
+use Rattle.std.proofs.Common.{sym, ◌∙◌}
 use Rattle.command.specs.declared.head.Operands.TheVariants.{Literal}
-use Rattle.command.specs.LedgerLines.{written_length, none_without_code, none_with_code, line_with_code, line_with_numbers, not_literal}
+use Rattle.command.specs.LedgerLines.{written_length, none_without_code, none_with_code, line_with_code, line_with_numbers}
 use Rattle.command.specs.Words.{coded_names}
 use Rattle.command.proofs.ledger.command_of.Goals as goal
 

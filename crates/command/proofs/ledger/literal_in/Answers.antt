@@ -1,4 +1,4 @@
-use Rattle.std.proofs.Common.{ℕ, ◌^◌, ◌<◌, take, drop, ℤ}
+use Rattle.std.proofs.Common.{◌^◌, ◌<◌, take, drop, ℤ}
 use lib.Signed.{mag}
 use Rattle.std.specs.Fmt.{signed_decimal}
 use Rattle.command.specs.ColumnsLemmas.{reads-field}

@@ -1,4 +1,4 @@
-use Rattle.std.proofs.Common.{◌≡◌, drop, ℤ, pos, sym, subst, w64, SFits, rules}
+use Rattle.std.proofs.Common.{◌≡◌, drop, ℤ, sym, subst, w64, SFits, rules}
 use Rattle.std.proofs.lemmas.Int.{to_z-of_z}
 use Rattle.std.specs.Fmt.{signed_decimal}
 use Rattle.command.specs.declared.head.Operands.TheVariants.{Literal}

@@ -1,4 +1,4 @@
-use Rattle.std.proofs.Common.{◌≡◌, ℕ, ◌<◌, length, subst, arith, rules}
+use Rattle.std.proofs.Common.{◌≡◌, ℕ, ◌<◌, length, subst, arith}
 use Rattle.std.proofs.lemmas.Bool.Decides.{nat_tests}
 use Rattle.command.specs.Numerals.{Read, none_read, one_more, none-beyond, none_empty, none_after_zero, one_digit, all_read}
 use Rattle.command.proofs.numeral.magnitude.Goals as goal

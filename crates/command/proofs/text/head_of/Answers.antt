@@ -1,4 +1,4 @@
-use Rattle.std.proofs.Common.{◌≡◌, ◌+◌, Some, None, sym, ap, ◌∙◌}
+use Rattle.std.proofs.Common.{◌≡◌, ◌+◌, Some, sym, ap, ◌∙◌}
 use Rattle.command.specs.declared.text.Token.{Token}
 use Rattle.command.specs.Tokens.{word, number, seen, token_from}
 use Rattle.command.specs.Begins.{none_by_none, none_by_number, begins_is}

@@ -1,4 +1,4 @@
-use Rattle.std.proofs.Common.{ℕ, ◌^◌, ◌<◌, ℤ}
+use Rattle.std.proofs.Common.{◌^◌, ◌<◌, ℤ}
 use lib.Signed.{mag}
 use Rattle.std.specs.Fmt.{signed_decimal}
 use Rattle.command.specs.Fields.{field_without_spelling, field_without_value}

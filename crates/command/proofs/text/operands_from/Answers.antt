@@ -1,4 +1,4 @@
-use Rattle.std.proofs.Common.{◌≡◌, ℤ, sym, subst, w64, SFits, to_z, of_z, rules}
+use Rattle.std.proofs.Common.{ℤ, sym, subst, w64, SFits, rules}
 use Rattle.std.proofs.lemmas.Int.{to_z-of_z}
 use Rattle.command.specs.Operands.{LineOf, none_at_a, none_at_b, none_at_c, none_at_literal, none_with_more, all_read}
 use Rattle.command.proofs.text.operands_from.Goals as goal

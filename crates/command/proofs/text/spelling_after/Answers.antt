@@ -1,6 +1,6 @@
-use Rattle.std.proofs.Common.{◌≡◌, ℕ, ◌+◌, ◌++◌, drop, Some, None, Option, sym, ap, ◌∙◌, arith}
+use Rattle.std.proofs.Common.{◌≡◌, ◌+◌, ◌++◌, drop, Some, None, sym, ap, ◌∙◌}
 use Rattle.command.specs.declared.text.Token.{Token}
-use Rattle.command.specs.Tokens.{Seen, word, number, seen, token_from}
+use Rattle.command.specs.Tokens.{word, number, seen, token_from}
 use Rattle.command.specs.Fields.{none_at_end, none_at_other, spelling_is, none_by_token, none_is_no_number, word_is_no_number}
 use Rattle.command.proofs.text.spelling_after.Goals as goal
 

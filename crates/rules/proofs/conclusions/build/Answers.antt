@@ -1,7 +1,7 @@
-use Rattle.std.proofs.Common.{◌≤◌, sym, ap, subst, arith}
+use Rattle.std.proofs.Common.{◌≤◌, sym, ap, subst}
 use Rattle.logic.specs.Tree.{size}
 use Rattle.terms.specs.Meaning.{largest}
-use Rattle.terms.specs.Outcome.{tree, count, Did}
+use Rattle.terms.specs.Outcome.{tree, count}
 use Rattle.terms.proofs.Outcomes.{did_stay}
 use Rattle.rules.specs.Building.{built, Buildable}
 use Rattle.rules.proofs.Instances.{placeable}

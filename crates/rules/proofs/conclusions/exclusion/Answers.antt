@@ -1,6 +1,6 @@
-use Rattle.std.proofs.Common.{refl, arith}
+use Rattle.std.proofs.Common.{refl}
 use Rattle.logic.specs.Syntax.{implication}
-use Rattle.logic.specs.Tree.{binary, unary, connect, neg}
+use Rattle.logic.specs.Tree.{unary, connect, neg}
 use Rattle.terms.specs.Outcome.{tree}
 use Rattle.terms.proofs.Outcomes.{did_stay, two_did, two_small, left_broke, still_within, still_means}
 use Rattle.rules.proofs.conclusions.exclusion.Goals as goal

@@ -1,5 +1,5 @@
-use Rattle.std.proofs.Common.{sym, ap, ◌∙◌, subst, arith}
-use Rattle.logic.specs.Tree.{put_size, size}
+use Rattle.std.proofs.Common.{sym, ap, ◌∙◌, arith}
+use Rattle.logic.specs.Tree.{put_size}
 use Rattle.logic.proofs.Trees.{put_tree_size}
 use Rattle.terms.specs.Outcome.{tree}
 use Rattle.rules.proofs.Measuring.{few_foralls, instance_bounded}

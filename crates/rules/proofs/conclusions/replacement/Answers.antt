@@ -1,5 +1,5 @@
 use Rattle.std.proofs.Common.{sym, refl, ap, ap₂, arith}
-use Rattle.logic.specs.Tree.{binary, connect, put_tree, size}
+use Rattle.logic.specs.Tree.{binary, connect, put_tree}
 use Rattle.logic.specs.Syntax.{implication}
 use Rattle.terms.specs.Outcome.{tree}
 use Rattle.terms.proofs.Outcomes.{two_did, two_small, left_broke, right_broke, still_within, still_means}

@@ -1,6 +1,6 @@
 use Rattle.std.proofs.Common.{sym, ap, ◌∙◌}
 use Rattle.terms.specs.Outcome.{tree}
-use Rattle.rules.specs.Building.{built, chosen}
+use Rattle.rules.specs.Building.{chosen}
 use Rattle.rules.proofs.Settling.{refused_unfounded, refused_oversized, kept_conclusion}
 use Rattle.rules.proofs.conclusions.settle.Goals as goal
 

@@ -1,11 +1,10 @@
-use Rattle.std.proofs.Common.{refl, ap, ◌∙◌, subst, ap₂, arith}
+use Rattle.std.proofs.Common.{refl, ap, subst, ap₂, arith}
 use Rattle.logic.specs.Facts.{eqleq}
-use Rattle.logic.specs.Syntax.{add, eq_numbers, leq, implies, equal, at_most}
-use Rattle.logic.specs.Syntax as syntax
+use Rattle.logic.specs.Syntax.{eq_numbers, leq, implies, equal, at_most}
 use Rattle.logic.specs.Tree as trees
 use Rattle.logic.specs.Tree.{size, binary, number_tree}
-use Rattle.terms.specs.Outcome.{tree, Did}
-use Rattle.rules.specs.Stating.{implies_tree, leqtrans_tree}
+use Rattle.terms.specs.Outcome.{Did}
+use Rattle.rules.specs.Stating.{implies_tree}
 use Rattle.rules.proofs.Flat.{relate_flat, implies_flat}
 use Rattle.rules.proofs.AnsweredBy.{oversized_answer, made_answer}
 use Rattle.rules.proofs.facts.eqleq.Goals as goal

@@ -1,15 +1,14 @@
-use Rattle.std.proofs.Common.{◌≡◌, true, false, Some, None, sym, refl, ap, ◌∙◌, subst, ap₂, arith, w64, to_z, of_z, rules}
+use Rattle.std.proofs.Common.{◌≡◌, Some, None, ap, ◌∙◌, subst, ap₂, arith, w64, to_z, of_z, rules}
 use Rattle.arithmetic.specs.Literals.{literal_sum}
-use Rattle.logic.specs.Facts.{sum, atmost}
-use Rattle.logic.specs.Syntax.{lit, add, eq_numbers, leq, neg, equal, at_most}
+use Rattle.logic.specs.Facts.{sum}
+use Rattle.logic.specs.Syntax.{lit, add, eq_numbers, equal}
 use Rattle.logic.specs.Tree as trees
 use Rattle.logic.specs.Tree.{leaf, binary, size}
 use Rattle.rules.specs.Shapes.{literal}
-use Rattle.rules.specs.Stating.{above_tree}
 use Rattle.terms.specs.Outcome.{tree, Did}
-use Rattle.rules.proofs.Flat.{relate_flat, neg_flat}
+use Rattle.rules.proofs.Flat.{relate_flat}
 use Rattle.rules.proofs.AnsweredBy.{misshapen_answer, unadmitted_answer, made_answer}
-use Rattle.rules.proofs.Literals.{sum_left_misshapen, sum_right_misshapen, atmost_left_misshapen, atmost_right_misshapen, left_admitted, right_admitted, sum_admitted, sum_unadmitted, sum_states, sum_states_none, atmost_states, above_states, read_small}
+use Rattle.rules.proofs.Literals.{sum_left_misshapen, sum_right_misshapen, left_admitted, right_admitted, sum_admitted, sum_unadmitted, sum_states, sum_states_none, read_small}
 use Rattle.rules.proofs.facts.sum.Goals as goal
 
 pub returns-in_default : goal.returns-in_default

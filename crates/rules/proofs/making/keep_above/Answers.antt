@@ -1,6 +1,6 @@
 use Rattle.std.proofs.Common.{refl}
 use Rattle.logic.specs.Tree.{neg}
-use Rattle.terms.proofs.Outcomes.{one_did, one_broke, one_small}
+use Rattle.terms.proofs.Outcomes.{one_did, one_broke}
 use Rattle.rules.proofs.making.keep_above.Goals as goal
 
 pub returns-in_err-bound : goal.returns-in_err-bound

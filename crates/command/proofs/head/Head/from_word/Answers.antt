@@ -1,4 +1,4 @@
-use Rattle.std.proofs.Common.{◌≡◌, Option, sym, subst}
+use Rattle.std.proofs.Common.{Option, sym, subst}
 use Rattle.command.specs.declared.head.Head.{Head}
 use Rattle.command.specs.Heads.{word, worded, Named}
 use Rattle.command.specs.Words.{worded_names}
