@@ -1,5 +1,7 @@
 // Arithmetics: which numbers may be written as literals, how two literals are summed and compared,
 // and whether bounds may be added.
+#![tactic(auto)]
+
 ghost use Rattle.std.specs.Prelude.{◌≡◌};
 ghost use Rattle.logic.specs.Arithmetic.{Arithmetic as Meaning, Lawful};
 ghost use Rattle.arithmetic.specs.Literals.{literal_sum};
