@@ -89,12 +89,12 @@ at_last_line form n s t some e none =
 pub at_line :
     (form : Form) (n end : ℕ) (s t : List ℕ) (x : Content) → end ≡ line_length s → end < length s → x ≡ command_or_spoiled (meaning form (take end s)) → t ≡ drop (end + 1) s
     → remaining form n s ≡ item_of n x ∷ remaining form (n + 1) t
-at_line form n end s t x is within content-is rest_is =
+at_line form n end s t x is within content_is rest_is =
     let more : lines s ≡ ended (take end s) ∷ lines (drop (end + 1) s) =
     first_line s (omega arith) ∙ ap (λ (k : ℕ). ended (take k s) ∷ lines (drop (suc k) s)) (sym is) ∙ ap (λ (k : ℕ). ended (take end s) ∷ lines (drop k s)) (sym (add-one end))
     in
     ap (items_from form n) more
-    ∙ ap (λ (y : Content). item_of n y ∷ items_from form (suc n) (lines (drop (end + 1) s))) (sym content-is)
+    ∙ ap (λ (y : Content). item_of n y ∷ items_from form (suc n) (lines (drop (end + 1) s))) (sym content_is)
     ∙ ap (λ (k : ℕ). item_of n x ∷ items_from form k (lines (drop (end + 1) s))) (sym (add-one n))
     ∙ ap (λ (l : List ℕ). item_of n x ∷ remaining form (n + 1) l) (sym rest_is)
 

@@ -52,10 +52,10 @@ is_justified f s e =
     ap (λ (k : ℕ). replicate k 32 ++ s) n ∙ ap (λ (l : List ℕ). replicate (blanks f) 32 ++ l) e ∙ blanks_and_rest f
 
 -- what reads the number after the blanks reads the field
-pub reads-field :
+pub reads_field :
     {X : Type 0} (write : X → List ℕ) (Fine : X → Type 0) (numeric : (x : X) → Fine x → Numeric (write x)) (field f t : List ℕ) → f ≡ field → t ≡ drop (blanks f) f
     → (r : Option X) → Reads (λ x. Fine x × (write x ≡ t)) r → Reads (λ x. Fine x × Stands (write x) field) r
-reads-field {X} write Fine numeric field f t same is r h = subst (λ (k : List ℕ). Reads (λ x. Fine x × Stands (write x) k) r) same (by r h)
+reads_field {X} write Fine numeric field f t same is r h = subst (λ (k : List ℕ). Reads (λ x. Fine x × Stands (write x) k) r) same (by r h)
   where
     by : (r : Option X) → Reads (λ x. Fine x × (write x ≡ t)) r → Reads (λ x. Fine x × Stands (write x) f) r
     by None none = λ x p. none x (p.0, after_blanks f (write x) (numeric x p.0) p.1 ∙ sym is)

@@ -205,20 +205,20 @@ module _ (line : List ℕ) (long : length line ≡ 28) where
   twenty_four : length (take 24 (drop 4 line)) ≡ 24
   twenty_four = ap length rest_is ∙ length-drop 4 line ∙ omega arith
 
-  pub none-without-literal :
+  pub none_without_literal :
       (n : ℕ) → ((z : ℤ) → (mag z < 2 ^ 63) × (justified (length (take 24 (drop 4 line))) (signed_decimal z) ≡ take 24 (drop 4 line)) → ⊥)
       → (x : Command) → Suits (used_by Operands.Literal) n x × (ledger_operands true x ≡ drop 4 line) → ⊥
-  none-without-literal n none x (suits, e) =
+  none_without_literal n none x (suits, e) =
       none x.literal (literal_small x.literal suits.literal, ap (λ (w : ℕ). justified w (signed_decimal x.literal)) twenty_four ∙ e ∙ sym rest_is)
 
   literal_fits : (z : ℤ) → mag z < 2 ^ 63 → LiteralFits true z
   literal_fits (pos n) h = h
   literal_fits (negsuc n) h = h
 
-  pub literal-line :
+  pub literal_line :
       (n : ℕ) (z : ℤ) → (mag z < 2 ^ 63) × (justified (length (take 24 (drop 4 line))) (signed_decimal z) ≡ take 24 (drop 4 line))
       → Suits (used_by Operands.Literal) n (record { code = n; a = 0; b = 0; c = 0; literal = z }) × (justified 24 (signed_decimal z) ≡ drop 4 line)
-  literal-line n z (small, e) = (
+  literal_line n z (small, e) = (
     record { head = refl; a = omega arith; b = omega arith; c = omega arith; literal = literal_fits z small },
     ap (λ (w : ℕ). justified w (signed_decimal z)) (sym twenty_four) ∙ e ∙ rest_is,
   )
@@ -279,9 +279,9 @@ module _ (line : List ℕ) (long : length line ≡ 28) where
             subst (NumberFits u.c) (same_at 20 x.c c f.2 at_c) l.0.c,
           )
 
-      pub numbers-line :
+      pub numbers_line :
           u.literal ≡ false → NumberFits u.a a × NumberFits u.b b × NumberFits u.c c → LineOf (record { code = n; a = a; b = b; c = c; literal = pos 0 })
-      numbers-line plain (fa, fb, fc) = (
+      numbers_line plain (fa, fb, fc) = (
         record { head = refl; a = fa; b = fb; c = fc; literal = subst (λ (v : Bool). LiteralFits v (pos 0)) (sym plain) (omega arith) },
         ap (λ (l : List ℕ). l ++ (justified 8 (decimal b) ++ justified 8 (decimal c))) (of_eight 4 a (omega arith) at_a)
             ∙ ap (λ (l : List ℕ). take 8 (drop 4 line) ++ (l ++ justified 8 (decimal c))) (of_eight 12 b (omega arith) at_b)

@@ -64,11 +64,11 @@ digit_at (d ∷ ds) zero h lt = h.0
 digit_at (d ∷ ds) (suc i) h lt = digit_at ds i h.1 (omega arith)
 
 -- where the digit at i can't be appended within the bound, the text is no number within it
-pub none-beyond :
+pub none_beyond :
     (ds : List ℕ) (i v most : ℕ) → i < length ds → most < 2 ^ 64 → Read ds i v
     → ((w : ℕ) → (48 ≤ slice_index ds i) × (slice_index ds i ≤ 57) × (w ≡ v * 10 + (slice_index ds i - 48)) × (w ≤ most) → ⊥)
     → (x : ℕ) → (x ≤ most) × (decimal x ≡ ds) → ⊥
-none-beyond ds i v most lt small r no_digit x (le, e) =
+none_beyond ds i v most lt small r no_digit x (le, e) =
     let x_small : x < 2 ^ 64 = omega arith in
     let d = digit_at ds i (digits_of x ds x_small e) lt in
     let more = one_more ds i v lt r d.0 d.1 in
@@ -115,8 +115,8 @@ none_below ds no_number (pos n) (small, e) = no_minus n small ds e
 none_below ds no_number (negsuc n) (small, e) = no_number (suc n) (omega arith, ap (drop 1) e)
 
 pub none_minus_zero : (m : ℕ) (ds : List ℕ) → m ≡ 0 → decimal m ≡ ds → (z : ℤ) → (mag z < 2 ^ 63) × (signed_decimal z ≡ 45 ∷ ds) → ⊥
-none_minus_zero m ds zero-m e (pos n) (small, is) = no_minus n small ds is
-none_minus_zero m ds zero-m e (negsuc n) (small, is) =
+none_minus_zero m ds zero_m e (pos n) (small, is) = no_minus n small ds is
+none_minus_zero m ds zero_m e (negsuc n) (small, is) =
     let same : suc n ≡ m = decimal_injective (suc n) m (omega arith) (omega arith) (ap (drop 1) is ∙ sym e) in
     omega arith
 

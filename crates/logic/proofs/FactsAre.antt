@@ -30,8 +30,8 @@ the_same φ ψ e = ap the_formula e
 
 -- the test passed, if what follows else is no formula
 chosen : (b : Bool) (x y : Stated) (φ : Formula) → (IsFormula y → ⊥) → cond b x y ≡ formula φ → (b ≡ true) × (x ≡ formula φ)
-chosen true x y φ no-else h = (refl, h)
-chosen false x y φ no-else h = absurd (no-else (is_formula y φ h))
+chosen true x y φ no_else h = (refl, h)
+chosen false x y φ no_else h = absurd (no_else (is_formula y φ h))
 
 literal : (a : Number) (f : ℤ → Stated) (φ : Formula) → of_literal a f ≡ formula φ → (m : ℤ) × (a ≡ lit m) × (f m ≡ formula φ)
 literal (lit m) f φ h = (m, refl, h)

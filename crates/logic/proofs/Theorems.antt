@@ -23,7 +23,7 @@ pub that_substitution_commutes_with_truth : SubstitutionCommutesWithTruth
 that_substitution_commutes_with_truth A W ρ t φ = put_value W 0 ρ t φ
 
 pub that_conclusions_hold : ConclusionsHold
-that_conclusions_hold A W made H P φ known_hold hyps-hold d = sound W made known_hold hyps-hold d
+that_conclusions_hold A W made H P φ known_hold hyps_hold d = sound W made known_hold hyps_hold d
 
 pub that_facts_hold : FactsHold
 that_facts_hold A L W f φ states ok = fact_holds L W states ok

@@ -136,8 +136,8 @@ said Stated.unadmitted = codes "nothing, since the sum is not admitted"
 said (Stated.formula φ) = shown_formula φ
 
 abbrev answer : Bool → String → String → List ℕ
-answer true yes-text no_text = codes yes-text
-answer false yes-text no_text = codes no_text
+answer true yes_text no_text = codes yes_text
+answer false yes_text no_text = codes no_text
 
 abbrev shown_question : Question → List ℕ
 shown_question (Question.turned p φ ψ) = shown_plan p ++ (codes " turns " ++ (shown_formula φ ++ (codes " into " ++ given (turn arity 0 p φ))))

@@ -77,7 +77,7 @@ pub data Plan : Type 0 where
   step : OneSided → Plan → Plan
   fork : TwoSided → Plan → Plan → Plan
 
--- ---- proofs: `from` and `from-both` apply a rule of one and of two premises
+-- ---- proofs: `from` and `from_both` apply a rule of one and of two premises
 
 pub data OnePremise : Type 0 where
   nnpp eqsymm and1 and2 orimp addneg intro elimnot : OnePremise

@@ -88,13 +88,13 @@ module _ (A : Arithmetic) (law : Lawful A) (L : Limits) (R : Room) where
       → ((W : World A) → StartHolds W S.start → (φ : Formula) → the_fact x ≡ some φ → Holds W φ)
       → ((t : Tree) → the_tree x ≡ some t → Passes A t)
       → Good (state N ts S.query S.start S.closed)
-  good_more S N ts x adds g new-fact new-tree = record {
+  good_more S N ts x adds g new_fact new_tree = record {
     sound = record {
-      known_hold = λ W s. known_more W S.names N x adds (g.sound.known_hold W s) (new-fact W s);
+      known_hold = λ W s. known_more W S.names N x adds (g.sound.known_hold W s) (new_fact W s);
       begun_soundly = g.sound.begun_soundly;
       closed_soundly = g.sound.closed_soundly;
     };
-    literals = literals_more S.names N x adds g.literals new-tree;
+    literals = literals_more S.names N x adds g.literals new_tree;
   }
 
   -- what a proof concludes holds

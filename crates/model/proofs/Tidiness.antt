@@ -123,7 +123,7 @@ module _ (A : Arithmetic) (L : Limits) (R : Room) where
 
   -- a result that is no term, the terms staying
   neat_plain : (S : State) (N : Names) (q : Option Formula) (b : Option Start) (c : Bool) (x : Result) → Adds S.names x N → the_tree x ≡ none → Neat S → Neat (state N S.terms q b c)
-  neat_plain S N q b c x adds no-term n = neat_more S N S.terms q b c x adds n n.orderly (λ u h. h) (λ t e. no_tree t (sym no-term ∙ e))
+  neat_plain S N q b c x adds no_term n = neat_more S N S.terms q b c x adds n n.orderly (λ u h. h) (λ t e. no_tree t (sym no_term ∙ e))
 
   neat_act : (h : Action) (S S' : State) (c : Command) → Neat S → act A L R h S c ≡ done S' → Neat S'
   neat_act (a_symbol k) S S' c n e =

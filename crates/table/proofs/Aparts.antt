@@ -48,7 +48,7 @@ module _ {E : Type 0} (same : E → E → Bool) where
 
   module _ (q : Equivalence same) where
     pub differs : (x y : E) → same x y ≡ false → same y x ≡ false
-    differs x y no-xy = elim (cases_Bool (same y x)) [ inl t ↦ absurd (false≢true (sym no-xy ∙ q.symmetric y x t)) | inr f ↦ f ]
+    differs x y no_xy = elim (cases_Bool (same y x)) [ inl t ↦ absurd (false≢true (sym no_xy ∙ q.symmetric y x t)) | inr f ↦ f ]
 
     has_last_not : (l : List E) (e x : E) → has same l x ≡ false → same e x ≡ false → has same (l ++ e ∷ []) x ≡ false
     has_last_not [] e x h n = or_from (same e x) false n refl

@@ -8,3 +8,4 @@ pub mod Theorems
 pub mod Symbols
 pub mod NodesLemmas
 pub mod HeadsLemmas
+pub mod SymbolsLemmas

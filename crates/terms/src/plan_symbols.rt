@@ -3,7 +3,7 @@ ghost use Rattle.std.specs.Prelude.{◌≡◌, Bool, length};
 ghost use Rattle.table.specs.Contents.{kept, places};
 ghost use Rattle.table.specs.Keeping.{answer, keep_in};
 ghost use Rattle.terms.specs.Symbols.{same_symbol, newly};
-ghost use Rattle.std.proofs.Common.{rules};
+ghost use Rattle.terms.specs.SymbolsLemmas.{symbol_reflexive, symbol_symmetric, symbol_transitive};
 
 use table::{Full, Place, Same, Table};
 
@@ -15,11 +15,11 @@ pub struct PlanSymbol {
 impl Same for PlanSymbol {
     ghost same = { same_symbol };
 
-    ghost reflexive = { Prim.search rules };
+    ghost reflexive = { symbol_reflexive };
 
-    ghost symmetric = { Prim.search rules };
+    ghost symmetric = { symbol_symmetric };
 
-    ghost transitive = { Prim.search rules };
+    ghost transitive = { symbol_transitive };
 
     fn same_as(&self, other: &PlanSymbol) -> bool {
         self.symbol == other.symbol

@@ -1,4 +1,4 @@
-use Rattle.command.specs.LedgerLines.{none_without_a, none_without_b, none_without_c, none_if_unfit, numbers-line}
+use Rattle.command.specs.LedgerLines.{none_without_a, none_without_b, none_without_c, none_if_unfit, numbers_line}
 use Rattle.std.proofs.lemmas.Bool.{both_ways}
 use Rattle.command.proofs.ledger.number_operands.Goals as goal
 
@@ -18,5 +18,5 @@ returns-then-not-unused_are_zero c =
 
 pub returns : goal.returns
 returns c =
-    numbers-line c.args.line.now c.requires.0 c.args.used c.args.code c.in_ok-a.a c.in_ok-b.b c.in_ok-c.c c.in_ok-a.ensures c.in_ok-b.ensures c.in_ok-c.ensures c.requires.1
+    numbers_line c.args.line.now c.requires.0 c.args.used c.args.code c.in_ok-a.a c.in_ok-b.b c.in_ok-c.c c.in_ok-a.ensures c.in_ok-b.ensures c.in_ok-c.ensures c.requires.1
     (c.unused_are_zero.ensures.0 c.if-not-unused_are_zero.false)

@@ -1,6 +1,6 @@
 use Rattle.std.proofs.Common.{◌≡◌, ℕ, ◌<◌, length, subst, arith}
 use Rattle.std.proofs.lemmas.Bool.Decides.{nat_tests}
-use Rattle.command.specs.Numerals.{Read, none_read, one_more, none-beyond, none_empty, none_after_zero, one_digit, all_read}
+use Rattle.command.specs.Numerals.{Read, none_read, one_more, none_beyond, none_empty, none_after_zero, one_digit, all_read}
 use Rattle.command.proofs.numeral.magnitude.Goals as goal
 
 pub returns-then-is_empty : goal.returns-then-is_empty
@@ -26,7 +26,7 @@ loop-byte-preserved c =
 pub returns-in_err-value : goal.returns-in_err-value
 returns-in_err-value c =
     rw c.from_residual.ensures
-    (none-beyond c.args.digits.now c.loop-byte.byte-index c.loop-byte.value c.args.most c.loop-byte-test.true (omega arith) c.loop-byte.invariant.0
+    (none_beyond c.args.digits.now c.loop-byte.byte-index c.loop-byte.value c.args.most c.loop-byte-test.true (omega arith) c.loop-byte.invariant.0
     c.in_err-value.ensures)
 
 pub returns : goal.returns
