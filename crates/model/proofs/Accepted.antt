@@ -50,7 +50,9 @@ module _ (A : Arithmetic) (L : Limits) (R : Room) (S S' : State) (c : Command) w
       let b8 = passed (require crowded (ltb (length S.names.symbols) R.symbols && holds_command L R S)) _ S' b5.2 in
       sym (done_inj _ S' b8.2)
 
-  pub make_accepted : (m : Maker) → do_make A L R m S c ≡ done S' → (t : Tree) × (made m S.names c ≡ some t) × (literal_admitted A t ≡ true) × (S' ≡ accept S (keep S.terms t) (term t))
+  pub make_accepted : (m : Maker) → do_make A L R m S c ≡ done S'
+      → (t : Tree) × (made m S.names c ≡ some t) × (full S.names t ≡ true) × (literal_admitted A t ≡ true) × (closed_within t ≡ true) × (within L t ≡ true)
+      × (S' ≡ accept S (keep S.terms t) (term t))
   make_accepted m e =
       let t = passed (need unnamed (made m S.names c)) _ S' e in
       let b5 = passed (require miscounted (full S.names t.0)) _ S' t.2 in
@@ -58,24 +60,25 @@ module _ (A : Arithmetic) (L : Limits) (R : Room) (S S' : State) (c : Command) w
       let b6 = passed (require unclosed (closed_within t.0)) _ S' b13.2 in
       let b7 = passed (require oversized (within L t.0)) _ S' b6.2 in
       let b8 = passed (require crowded (holds_terms L R (keep S.terms t.0) && holds_command L R S)) _ S' b7.2 in
-      (t.0, needed unnamed _ _ t.1, required unadmitted 0 _ _ b13.1, sym (done_inj _ S' b8.2))
+      (t.0, needed unnamed _ _ t.1, required miscounted 0 _ _ b5.1, required unadmitted 0 _ _ b13.1, required unclosed 0 _ _ b6.1, required oversized 0 _ _ b7.1, sym (done_inj _ S' b8.2))
 
   pub fact_accepted : (g : FactHead) → do_fact A L R g S c ≡ done S'
-      → (f : Fact) × (φ : Formula) × (named_fact g S.names c ≡ some f) × (Facts.state A f ≡ Facts.formula φ) × (S' ≡ accept S (keep_each S.terms (parts (formula_tree φ))) (fact φ))
+      → (f : Fact) × (φ : Formula) × (named_fact g S.names c ≡ some f) × (closed_fact f ≡ true) × (Facts.state A f ≡ Facts.formula φ) × (S' ≡ accept S (keep_each S.terms (parts (formula_tree φ))) (fact φ))
   fact_accepted g e =
       let f = passed (need unnamed (named_fact g S.names c)) _ S' e in
       let b6 = passed (require unclosed (closed_fact f.0)) _ S' f.2 in
       let φ = passed (stated (Facts.state A f.0)) _ S' b6.2 in
       let b7 = passed (require oversized (within L (formula_tree φ.0))) _ S' φ.2 in
       let b8 = passed (require crowded (holds_terms L R (keep_each S.terms (parts (formula_tree φ.0))) && holds_command L R S)) _ S' b7.2 in
-      (f.0, φ.0, needed unnamed _ _ f.1, stated_as _ φ.0 φ.1, sym (done_inj _ S' b8.2))
+      (f.0, φ.0, needed unnamed _ _ f.1, required unclosed 0 _ _ b6.1, stated_as _ φ.0 φ.1, sym (done_inj _ S' b8.2))
 
-  pub query_accepted : do_query A L R S c ≡ done S' → (φ : Formula) × (S' ≡ state (with_result S.names nothing) S.terms (some φ) S.start S.closed)
+  pub query_accepted : do_query A L R S c ≡ done S'
+      → (φ : Formula) × (formula_at S.names c.a ≡ some φ) × (closed (formula_tree φ) ≡ true) × (S' ≡ state (with_result S.names nothing) S.terms (some φ) S.start S.closed)
   query_accepted e =
       let φ = passed (need unnamed (formula_at S.names c.a)) _ S' e in
       let b6 = passed (require unclosed (closed (formula_tree φ.0))) _ S' φ.2 in
       let b8 = passed (require crowded (holds_command L R S)) _ S' b6.2 in
-      (φ.0, sym (done_inj _ S' b8.2))
+      (φ.0, needed unnamed _ _ φ.1, required unclosed 0 _ _ b6.1, sym (done_inj _ S' b8.2))
 
   pub initial_accepted : do_initial A L R S c ≡ done S'
       → (φ : Formula) × (p : Plan) × (met : List Formula) × (ψ : Formula) × (S.query ≡ some φ) × (plan_at S.names c.a ≡ some p) × (new_symbols p φ ≡ true) × (turn (thing_arity S.names) 0 p φ ≡ some ψ)

@@ -5,6 +5,11 @@ pub mod Accepted
 pub mod Soundness
 pub mod Runs
 pub mod Keeping
+pub mod Parts
+pub mod SymbolsNamed
+pub mod Closing
+pub mod StandingShows
+pub mod Standing
 pub mod Settling
 pub mod Exactness
 pub mod Refusing

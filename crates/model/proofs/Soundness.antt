@@ -28,7 +28,7 @@ use Rattle.model.proofs.Admitting.{AllAdmitted, Passes, made_admitted, fact_admi
 
 -- ---- stages
 
-while_proving : (c : Bool) (q : Option Formula) (b : Option Start) → taken false true true (stage_from c q b) ≡ true → (φ : Formula) × (q ≡ some φ)
+pub while_proving : (c : Bool) (q : Option Formula) (b : Option Start) → taken false true true (stage_from c q b) ≡ true → (φ : Formula) × (q ≡ some φ)
 while_proving true q b h = absurd (false≢true h)
 while_proving false none b h = absurd (false≢true h)
 while_proving false (some φ) none h = (φ, refl)
@@ -108,13 +108,13 @@ module _ (A : Arithmetic) (law : Lawful A) (L : Limits) (R : Room) where
 
   good_make : (m : Maker) (S S' : State) (c : Command) → Good S → do_make A L R m S c ≡ done S' → Good S'
   good_make m S S' c g e =
-      let (t, makes, literal, is) = make_accepted A L R S S' c m e in
+      let (t, makes, arguments, literal, closes, small, is) = make_accepted A L R S S' c m e in
       subst Good (sym is) (good_more S (with_result S.names (term t)) (keep S.terms t) (term t) refl g (λ W s φ x. nothing_of φ x)
       (λ u x. subst (Passes A) (some-injective t u x) (made_admitted A S.names g.literals m c t makes literal)))
 
   good_fact : (k : FactHead) (S S' : State) (c : Command) → Good S → do_fact A L R k S c ≡ done S' → Good S'
   good_fact k S S' c g e =
-      let (f, φ, names, states, is) = fact_accepted A L R S S' c k e in
+      let (f, φ, names, closes, states, is) = fact_accepted A L R S S' c k e in
       let d = fact_stated A f φ states in
       let ok = stated_admitted A law f φ d (fact_admitted A S.names g.literals c k f names) in
       subst Good (sym is) (good_more S (with_result S.names (fact φ)) (keep_each S.terms (parts (formula_tree φ))) (fact φ) refl g
@@ -124,7 +124,7 @@ module _ (A : Arithmetic) (law : Lawful A) (L : Limits) (R : Room) where
   good_query S S' c g stage e =
       let now = while_asking S.closed S.query S.start stage in
       let N = with_result S.names nothing in
-      subst Good (sym (query_accepted A L R S S' c e).1) (record {
+      subst Good (sym (query_accepted A L R S S' c e).3) (record {
         sound = record {
           known_hold = λ W s. known_more W S.names N nothing refl (g.sound.known_hold W s) (λ ψ x. nothing_of ψ x);
           begun_soundly = λ b x. let old = g.sound.begun_soundly b x in nothing_of old.0 (sym now.1 ∙ old.1);

@@ -109,7 +109,7 @@ module _ (A : Arithmetic) (L : Limits) (R : Room) where
 
   neat_make : (m : Maker) (S S' : State) (c : Command) → Neat S → do_make A L R m S c ≡ done S' → Neat S'
   neat_make m S S' c n e =
-      let (t, makes, literal, is) = make_accepted A L R S S' c m e in
+      let (t, makes, arguments, literal, closes, small, is) = make_accepted A L R S S' c m e in
       let ops = assembled_has S.names (λ u. HasEach S.terms (operands u)) (λ x. tt) (λ g k u i. (n.made_kept k u i, tt)) (λ g j k u v i i'. (n.made_kept j u i, (n.made_kept k v i', tt))) m c t
       (assembled_made m S.names c t makes) in
       subst Neat (sym is) (neat_more S (with_result S.names (term t)) (keep S.terms t) S.query S.start S.closed (term t) refl n (keep_orderly S.terms t n.orderly ops) (has_kept S.terms t)
@@ -117,7 +117,7 @@ module _ (A : Arithmetic) (L : Limits) (R : Room) where
 
   neat_fact : (g : FactHead) (S S' : State) (c : Command) → Neat S → do_fact A L R g S c ≡ done S' → Neat S'
   neat_fact g S S' c n e =
-      let (f, φ, names, states, is) = fact_accepted A L R S S' c g e in
+      let (f, φ, names, closes, states, is) = fact_accepted A L R S S' c g e in
       subst Neat (sym is) (subst (λ l. Neat (state (with_result S.names (fact φ)) (keep_each S.terms l) S.query S.start S.closed)) (append-nil (parts (formula_tree φ)))
       (neat_known S (φ ∷ []) S.query S.start S.closed φ n))
 
@@ -133,7 +133,7 @@ module _ (A : Arithmetic) (L : Limits) (R : Room) where
   neat_act (a_deduction m) S S' c n e = neat_make m S S' c n e
   neat_act (a_fact g) S S' c n e = neat_fact g S S' c n e
   neat_act a_query S S' c n e =
-      let (φ, is) = query_accepted A L R S S' c e in
+      let (φ, names, closes, is) = query_accepted A L R S S' c e in
       subst Neat (sym is) (neat_plain S (with_result S.names nothing) (some φ) S.start S.closed nothing refl refl n)
   neat_act an_initial S S' c n e =
       let (φ, p, met, ψ, query, names, new, turns, is) = initial_accepted A L R S S' c e in

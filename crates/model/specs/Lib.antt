@@ -8,4 +8,5 @@ pub mod Run
 pub mod Theorems
 pub mod Written
 pub mod Writer
+pub mod Standing
 pub mod Examples

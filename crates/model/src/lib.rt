@@ -2,6 +2,7 @@
 #![tactic(auto)]
 
 ghost use Rattle.model.specs.Examples.{ExamplesComeOut, ExampleStands};
+ghost use Rattle.model.specs.Standing.{SessionsStand};
 ghost use Rattle.model.specs.Theorems.{KnownFormulasHold, InitialFormulasHoldAfterRereading, RefutedQueriesHoldNowhere, RunsAreFolds, AcceptedQueriesHoldNowhere, LetAndInitialAreExact, RefusalsArePlain, SessionsAreTidy};
 ghost use Rattle.model.specs.Writer.{RefutationsCanBeWrittenOut};
 ghost use Rattle.model.specs.Written.{RefutationsAreAccepted};
@@ -72,6 +73,13 @@ pub fn refusals_are_plain() -> u8
 // The terms kept stand once each, operands before heads, with all their parts.
 pub fn sessions_are_tidy() -> u8
     ensures { SessionsAreTidy }
+{
+    0
+}
+
+// The terms that a session's results hold are typed, proper and within the limits, and what it knows and its query are closed.
+pub fn sessions_stand() -> u8
+    ensures { SessionsStand }
 {
     0
 }

@@ -8,6 +8,8 @@ ghost use Rattle.table.specs.Keeping.{answer, index, keep_in};
 ghost use Rattle.table.specs.Theorems.{KeepsFirstAppearances, RoomSuffices};
 ghost use Rattle.table.specs.Sameness.{has, first, Apart, Stands, FirstIsTheOne};
 
+pub mod log;
+
 // A kind of entry with a test of sameness.
 pub trait Same: Copy {
     ghost same: { Self → Self → Bool };
