@@ -7,7 +7,7 @@ use Rattle.logic.specs.Syntax as syntax
 use Rattle.logic.specs.Tree.{formula_tree, size, foralls, assumptions, parts}
 use Rattle.logic.specs.Arithmetic.{Arithmetic}
 use Rattle.logic.specs.Facts as Facts
-use Rattle.logic.specs.Facts.{Fact, Stated}
+use Rattle.logic.specs.Facts.{Fact}
 use Rattle.model.specs.Limits.{limits, within, own_index_within}
 use Rattle.model.specs.Refusal.{refused, ◌>>=◌}
 use Rattle.model.specs.Session.{stated}
@@ -52,17 +52,10 @@ pub refused_answer : (A : Arithmetic) (old : Terms) (f : Fact) (e : Reason) → 
 refused_answer A old f e w h = record { well_formed = w; same_room = refl; front = take_all (count old) (entries old) (omega arith); outcome = h }
 
 module _ (A : Arithmetic) (old : Terms) (f : Fact) (w : WellFormed old) where
-  stopped : (e : Reason) (s : Stated) → Facts.state A f ≡ s → stated s ≡ refused (refusal e) 0 → Answered A old old f (Err e)
-  stopped e s says is = refused_answer A old f e w (ap (λ s. stated s >>= formula_kept (room old) (trees old)) says ∙ ap (λ o. o >>= formula_kept (room old) (trees old)) is)
-
-  pub uncarried_answer : Facts.state A f ≡ Facts.uncarried → Answered A old old f (Err Reason.Uncarried)
-  uncarried_answer h = stopped Reason.Uncarried _ h refl
-
-  pub misshapen_answer : Facts.state A f ≡ Facts.misshapen → Answered A old old f (Err Reason.Unfounded)
-  misshapen_answer h = stopped Reason.Unfounded _ h refl
-
-  pub unadmitted_answer : Facts.state A f ≡ Facts.unadmitted → Answered A old old f (Err Reason.Unadmitted)
-  unadmitted_answer h = stopped Reason.Unadmitted _ h refl
+  -- the refusal of what the fact states, passed on
+  pub stopped_answer : (e d : Reason) (r : Result ℕ Reason) → r ≡ Err d → d ≡ e → stated (Facts.state A f) ≡ refused (refusal e) 0 → Answered A old old f r
+  stopped_answer e d r i j h =
+      subst (Answered A old old f) (sym (i ∙ ap Err j)) (refused_answer A old f e w (ap (λ o. o >>= formula_kept (room old) (trees old)) h))
 
 module _ (A : Arithmetic) (old : Terms) (f : Fact) (φ : Formula) (says : Facts.state A f ≡ Facts.formula φ) (flat : Flat (formula_tree φ)) where
   kept_as : fact_kept A (room old) (trees old) f ≡ formula_kept (room old) (trees old) φ

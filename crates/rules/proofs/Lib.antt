@@ -9,4 +9,13 @@ pub mod Joining
 pub mod Flat
 pub mod AnsweredBy
 pub mod Literals
+pub mod Bounds
 pub mod FitAlike
+pub mod TypedShapes
+pub mod TypedRules
+pub mod TypedInstances
+pub mod TypedLimits
+pub mod TypedSettling
+pub mod TypedProofs
+pub mod TypedPlans
+pub mod TypedTerms

@@ -1,12 +1,18 @@
 -- Number terms that are literals, and their sums.
-use Rattle.std.proofs.Common.{◌≡◌, true, false, cond, ℤ, is_some, Some, None, Option, sym, refl, ap, ◌∙◌, subst, inl, inr, arith}
+use Rattle.std.proofs.Common.{◌≡◌, Bool, true, false, cond, ℤ, is_some, is_err, Some, None, Ok, Err, Option, Result, sym, refl, ap, ◌∙◌, subst, inl, inr, arith}
+use mathlib.Core.Bool.{false≢true}
 use Rattle.std.proofs.lemmas.Bool.{cases_Bool}
 use Rattle.logic.specs.Syntax.{Number, lit, add, minus, measure, eq_numbers, leq, neg}
 use Rattle.logic.specs.Tree.{Tree, leaf, unary, binary, number_tree, size, literals_pass}
 use Rattle.logic.specs.Arithmetic.{Arithmetic}
 use Rattle.logic.specs.Facts.{Stated, misshapen, unadmitted, formula, of_literal, state, sum, atmost}
+use Rattle.model.specs.Refusal.{refused}
+use Rattle.model.specs.Session.{stated}
 use Rattle.arithmetic.specs.Literals.{literal_sum}
-use Rattle.rules.specs.Shapes.{literal}
+use Rattle.rules.specs.declared.refusal.Reason.{Reason}
+use Rattle.rules.specs.declared.refusal.Reason.TheVariants as Reason
+use Rattle.rules.specs.Refusals.{refusal}
+use Rattle.rules.specs.Shapes.{literal, admitted, total, compared}
 
 some_not_none : {X : Type 0} (x : X) → Some x ≡ None → ⊥
 some_not_none x e = absurd (true_not_false (ap is_some e))
@@ -58,6 +64,12 @@ module _ (A : Arithmetic) (m n : ℤ) (am : A.admits m ≡ true) (an : A.admits 
 
 -- ---- what a sum and a comparison state of operands that were read
 
+ok_not_err : {X : Type 0} {T E : Type 0} (x : T) (e : E) → Ok x ≡ Err e → X
+ok_not_err x e h = absurd (false≢true (ap is_err h))
+
+same_reason : {T : Type 0} (d r : Reason) → ◌≡◌ {A = Result T Reason} (Err r) (Err d) → d ≡ r
+same_reason d r h = cc
+
 module _ (A : Arithmetic) (x y : Number) {s t : Tree} (e : s ≡ number_tree x) (f : t ≡ number_tree y) where
   left_is : (m : ℤ) → literal s ≡ Some m → x ≡ lit m
   left_is m h = is_literal x m (sym (ap literal e) ∙ h)
@@ -65,39 +77,95 @@ module _ (A : Arithmetic) (x y : Number) {s t : Tree} (e : s ≡ number_tree x) 
   right_is : (n : ℤ) → literal t ≡ Some n → y ≡ lit n
   right_is n h = is_literal y n (sym (ap literal f) ∙ h)
 
-  pub sum_left_misshapen : literal s ≡ None → state A (sum x y) ≡ misshapen
-  sum_left_misshapen h = no_literal x _ (sym (ap literal e) ∙ h)
+  left_misshapen : (g : ℤ → Stated) → literal s ≡ None → of_literal x g ≡ misshapen
+  left_misshapen g h = no_literal x g (sym (ap literal e) ∙ h)
 
-  pub atmost_left_misshapen : literal s ≡ None → state A (atmost x y) ≡ misshapen
-  atmost_left_misshapen h = no_literal x _ (sym (ap literal e) ∙ h)
-
-  pub sum_right_misshapen : (m : ℤ) → literal s ≡ Some m → literal t ≡ None → state A (sum x y) ≡ misshapen
-  sum_right_misshapen m h k = subst (λ z. state A (sum z y) ≡ misshapen) (sym (left_is m h)) (no_literal y _ (sym (ap literal f) ∙ k))
-
-  pub atmost_right_misshapen : (m : ℤ) → literal s ≡ Some m → literal t ≡ None → state A (atmost x y) ≡ misshapen
-  atmost_right_misshapen m h k = subst (λ z. state A (atmost z y) ≡ misshapen) (sym (left_is m h)) (no_literal y _ (sym (ap literal f) ∙ k))
+  right_misshapen : (g : ℤ → ℤ → Stated) (m : ℤ) → literal s ≡ Some m → literal t ≡ None → of_literal x (λ m. of_literal y (g m)) ≡ misshapen
+  right_misshapen g m h k = subst (λ z. of_literal z (λ m. of_literal y (g m)) ≡ misshapen) (sym (left_is m h)) (no_literal y (g m) (sym (ap literal f) ∙ k))
 
   module _ (m n : ℤ) (h : literal s ≡ Some m) (k : literal t ≡ Some n) where
-    pub left_admitted : literals_pass A.admits (number_tree x) ≡ true → A.admits m ≡ true
+    left_admitted : literals_pass A.admits (number_tree x) ≡ true → A.admits m ≡ true
     left_admitted p = subst (λ z. literals_pass A.admits (number_tree z) ≡ true) (left_is m h) p
 
-    pub right_admitted : literals_pass A.admits (number_tree y) ≡ true → A.admits n ≡ true
+    right_admitted : literals_pass A.admits (number_tree y) ≡ true → A.admits n ≡ true
     right_admitted p = subst (λ z. literals_pass A.admits (number_tree z) ≡ true) (right_is n k) p
 
     both_read : (P : Number → Number → Type 0) → P (lit m) (lit n) → P x y
     both_read P p = subst (λ z. P z y) (sym (left_is m h)) (subst (P (lit m)) (sym (right_is n k)) p)
 
-    pub sum_states : A.admits (A.sum m n) ≡ true → state A (sum x y) ≡ formula (eq_numbers (add x y) (lit (A.sum m n)))
+    sum_states : A.admits (A.sum m n) ≡ true → state A (sum x y) ≡ formula (eq_numbers (add x y) (lit (A.sum m n)))
     sum_states a = both_read (λ x y. state A (sum x y) ≡ formula (eq_numbers (add x y) (lit (A.sum m n)))) (rw a)
 
-    pub sum_states_none : A.admits (A.sum m n) ≡ false → state A (sum x y) ≡ unadmitted
+    sum_states_none : A.admits (A.sum m n) ≡ false → state A (sum x y) ≡ unadmitted
     sum_states_none a = both_read (λ x y. state A (sum x y) ≡ unadmitted) (rw a)
 
-    pub atmost_states : A.atmost m n ≡ true → state A (atmost x y) ≡ formula (leq x y)
-    atmost_states a = both_read (λ x y. state A (atmost x y) ≡ formula (leq x y)) (rw a)
+    atmost_states : state A (atmost x y) ≡ formula (cond (A.atmost m n) (leq x y) (neg (leq x y)))
+    atmost_states = both_read (λ x y. state A (atmost x y) ≡ formula (cond (A.atmost m n) (leq x y) (neg (leq x y)))) refl
 
-    pub above_states : A.atmost m n ≡ false → state A (atmost x y) ≡ formula (neg (leq x y))
-    above_states a = both_read (λ x y. state A (atmost x y) ≡ formula (neg (leq x y))) (rw a)
-
-    pub read_small : (size s ≡ 1) × (size t ≡ 1)
+    read_small : (size s ≡ 1) × (size t ≡ 1)
     read_small = (literal_small s m h, literal_small t n k)
+
+  -- ---- by what was read
+
+  abbrev SumRefused : Reason → Type 0
+  SumRefused r = stated (state A (sum x y)) ≡ refused (refusal r) 0
+
+  abbrev AtmostRefused : Reason → Type 0
+  AtmostRefused r = stated (state A (atmost x y)) ≡ refused (refusal r) 0
+
+  module _ (p : literals_pass A.admits (number_tree x) ≡ true) (q : literals_pass A.admits (number_tree y) ≡ true) where
+    admission_refused : (m n : ℤ) → literal s ≡ Some m → literal t ≡ Some n → (o : Option ℤ) → o ≡ literal_sum A m n → (r : Reason) → Err r ≡ admitted o → SumRefused r
+    admission_refused m n h k None i r a =
+        subst SumRefused (same_reason Reason.Unadmitted r a) (ap stated (sum_states_none m n h k (sum_unadmitted A m n (left_admitted m n h k p) (right_admitted m n h k q) i)))
+    admission_refused m n h k (Some j) i r a = ok_not_err j r (sym a)
+
+    refused_by : (o u : Option ℤ) → literal s ≡ o → literal t ≡ u → (r : Reason) → Err r ≡ total A o u → SumRefused r
+    refused_by None u h k r a = subst SumRefused (same_reason Reason.Unfounded r a) (ap stated (left_misshapen _ h))
+    refused_by (Some m) None h k r a = subst SumRefused (same_reason Reason.Unfounded r a) (ap stated (right_misshapen _ m h k))
+    refused_by (Some m) (Some n) h k r a = admission_refused m n h k (literal_sum A m n) refl r a
+
+    -- a refusal is the fact's
+    pub total_refused : (r : Reason) → Err r ≡ total A (literal s) (literal t) → stated (state A (sum x y)) ≡ refused (refusal r) 0
+    total_refused r a = refused_by (literal s) (literal t) refl refl r a
+
+    abbrev SumsTo : ℤ → Type 0
+    SumsTo i = (state A (sum x y) ≡ formula (eq_numbers (add x y) (lit i))) × (size s ≡ 1) × (size t ≡ 1)
+
+    admission_states : (m n : ℤ) → literal s ≡ Some m → literal t ≡ Some n → (o : Option ℤ) → o ≡ literal_sum A m n → (i : ℤ) → Ok i ≡ admitted o → SumsTo i
+    admission_states m n h k None j i a = ok_not_err i Reason.Unadmitted a
+    admission_states m n h k (Some l) j i a =
+        let ei : i ≡ l = cc in
+        let z = sum_admitted A m n (left_admitted m n h k p) (right_admitted m n h k q) l j in
+        let small = read_small m n h k in
+        (sum_states m n h k z.0 ∙ ap (λ v. formula (eq_numbers (add x y) (lit v))) (sym (ei ∙ z.1)), small.0, small.1)
+
+    states_by : (o u : Option ℤ) → literal s ≡ o → literal t ≡ u → (i : ℤ) → Ok i ≡ total A o u → SumsTo i
+    states_by None u h k i a = ok_not_err i Reason.Unfounded a
+    states_by (Some m) None h k i a = ok_not_err i Reason.Unfounded a
+    states_by (Some m) (Some n) h k i a = admission_states m n h k (literal_sum A m n) refl i a
+
+    -- and a sum is what it states, of small operands
+    pub total_states : (i : ℤ) → Ok i ≡ total A (literal s) (literal t) → (state A (sum x y) ≡ formula (eq_numbers (add x y) (lit i))) × (size s ≡ 1) × (size t ≡ 1)
+    total_states i a = states_by (literal s) (literal t) refl refl i a
+
+  compared_refused_by : (o u : Option ℤ) → literal s ≡ o → literal t ≡ u → (r : Reason) → Err r ≡ compared A o u → AtmostRefused r
+  compared_refused_by None u h k r a = subst AtmostRefused (same_reason Reason.Unfounded r a) (ap stated (left_misshapen _ h))
+  compared_refused_by (Some m) None h k r a = subst AtmostRefused (same_reason Reason.Unfounded r a) (ap stated (right_misshapen _ m h k))
+  compared_refused_by (Some m) (Some n) h k r a = ok_not_err (A.atmost m n) r (sym a)
+
+  pub compared_refused : (r : Reason) → Err r ≡ compared A (literal s) (literal t) → stated (state A (atmost x y)) ≡ refused (refusal r) 0
+  compared_refused r a = compared_refused_by (literal s) (literal t) refl refl r a
+
+  abbrev ComparesAs : Bool → Type 0
+  ComparesAs b = (state A (atmost x y) ≡ formula (cond b (leq x y) (neg (leq x y)))) × (size s ≡ 1) × (size t ≡ 1)
+
+  compares_by : (o u : Option ℤ) → literal s ≡ o → literal t ≡ u → (b : Bool) → Ok b ≡ compared A o u → ComparesAs b
+  compares_by None u h k b a = ok_not_err b Reason.Unfounded a
+  compares_by (Some m) None h k b a = ok_not_err b Reason.Unfounded a
+  compares_by (Some m) (Some n) h k b a =
+      let eb : A.atmost m n ≡ b = cc in
+      let small = read_small m n h k in
+      (subst (λ c. state A (atmost x y) ≡ formula (cond c (leq x y) (neg (leq x y)))) eb (atmost_states m n h k), small.0, small.1)
+
+  pub compared_states : (b : Bool) → Ok b ≡ compared A (literal s) (literal t) → (state A (atmost x y) ≡ formula (cond b (leq x y) (neg (leq x y)))) × (size s ≡ 1) × (size t ≡ 1)
+  compared_states b a = compares_by (literal s) (literal t) refl refl b a

@@ -9,3 +9,7 @@ pub mod Stating
 pub mod Answering
 pub mod Shapes
 pub mod Fitting
+pub mod Names
+pub mod Turning
+pub mod Typed
+pub mod Sorts

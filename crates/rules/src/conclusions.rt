@@ -75,7 +75,7 @@ fn is_falsity(terms: &Terms, i: u32) -> bool
 }
 
 // Whether two terms are the same: each is kept once.
-fn same(terms: &Terms, i: u32, j: u32) -> bool
+pub(crate) fn same(terms: &Terms, i: u32, j: u32) -> bool
     requires well_formed { WellFormed terms.now }
     requires left { i < count terms.now }
     requires right { j < count terms.now }

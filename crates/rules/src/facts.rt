@@ -1,21 +1,25 @@
 // What facts state of terms that are kept, in any arithmetic.
-ghost use Rattle.std.specs.Prelude.{◌≡◌, ◌<◌, true, Ok, Err, MatchResult};
+ghost use Rattle.std.specs.Prelude.{◌≡◌, ◌<◌, true, Ok, Err, MatchResult, nat_lt};
 ghost use Rattle.logic.specs.Arithmetic.{Arithmetic as Meaning};
-ghost use Rattle.logic.specs.Facts.{sum, atmost, cancel, swap, eqleq, leqtrans};
-ghost use Rattle.logic.specs.Syntax.{Number};
-ghost use Rattle.logic.specs.Tree.{number_tree, literals_pass};
+ghost use Rattle.logic.specs.Facts.{sum, atmost, cancel, swap, eqleq, leqtrans, pair};
+ghost use Rattle.logic.specs.Syntax.{Number, Formula};
+ghost use Rattle.logic.specs.Tree.{number_tree, formula_tree, literals_pass};
+ghost use Rattle.terms.specs.Meaning.{largest};
 ghost use Rattle.terms.specs.Outcome.{count, tree, WellFormed};
 ghost use Rattle.rules.specs.Answering.{Answered};
 
-use crate::draft::{Part, join};
-use crate::making::{keep_above, keep_cancel, keep_leqtrans};
+use crate::making::{
+    keep_above, keep_cancel, keep_eqleq, keep_leqtrans, keep_pair, keep_sum, keep_swap,
+    size_of_cancel, size_of_eqleq, size_of_leqtrans, size_of_pair, size_of_swap,
+};
 use crate::refusal::Reason;
-use crate::shapes::literal;
+use crate::shapes::{added, compared, total};
 use arithmetic::Arithmetic;
 use table::Full;
 use terms::Terms;
-use terms::records::{Binary, Connective};
+use terms::records::Binary;
 
+// The index of what was kept; where the table is full, why not.
 fn crowded(kept: Result<u32, Full>) -> Result<u32, Reason>
     ensures { MatchResult kept (λ i. result ≡ Ok i) (λ _. result ≡ Err Reason.Crowded) }
 {
@@ -25,13 +29,20 @@ fn crowded(kept: Result<u32, Full>) -> Result<u32, Reason>
     }
 }
 
+// Whether a formula of size n is too large to be kept.
+fn too_large(n: u32) -> bool
+    ensures { result ≡ nat_lt largest n }
+{
+    n > 20_000
+}
+
 // a + -a = 0
 pub fn cancel(terms: &mut Terms, a: u32) -> Result<u32, Reason>
     requires well_formed { WellFormed terms.old }
     requires within { a < count terms.old }
     ensures { (M : Meaning) (x : Number) → tree terms.old a ≡ number_tree x → Answered M terms.old terms.new (cancel x) result }
 {
-    if terms.size(a) * 2 + 4 > 20_000 {
+    if too_large(size_of_cancel(terms, a)) {
         return Err(Reason::Oversized);
     }
     crowded(keep_cancel(terms, a))
@@ -44,15 +55,10 @@ pub fn swap(terms: &mut Terms, a: u32, b: u32) -> Result<u32, Reason>
     requires right { b < count terms.old }
     ensures { (M : Meaning) (x y : Number) → tree terms.old a ≡ number_tree x → tree terms.old b ≡ number_tree y → Answered M terms.old terms.new (swap x y) result }
 {
-    if (terms.size(a) + terms.size(b)) * 2 + 3 > 20_000 {
+    if too_large(size_of_swap(terms, a, b)) {
         return Err(Reason::Oversized);
     }
-    crowded(join(
-        terms,
-        Binary::Eq,
-        Part::Two(Binary::Add, a, b),
-        Part::Two(Binary::Add, b, a),
-    ))
+    crowded(keep_swap(terms, a, b))
 }
 
 // a = b → a ≤ b
@@ -62,16 +68,10 @@ pub fn eqleq(terms: &mut Terms, a: u32, b: u32) -> Result<u32, Reason>
     requires right { b < count terms.old }
     ensures { (M : Meaning) (x y : Number) → tree terms.old a ≡ number_tree x → tree terms.old b ≡ number_tree y → Answered M terms.old terms.new (eqleq x y) result }
 {
-    if (terms.size(a) + terms.size(b)) * 2 + 3 > 20_000 {
+    if too_large(size_of_eqleq(terms, a, b)) {
         return Err(Reason::Oversized);
     }
-    let implies = Binary::Connect(Connective::Implication);
-    crowded(join(
-        terms,
-        implies,
-        Part::Two(Binary::Eq, a, b),
-        Part::Two(Binary::Leq, a, b),
-    ))
+    crowded(keep_eqleq(terms, a, b))
 }
 
 // a ≤ b → b ≤ c → a ≤ c
@@ -82,7 +82,7 @@ pub fn leqtrans(terms: &mut Terms, a: u32, b: u32, c: u32) -> Result<u32, Reason
     requires third { c < count terms.old }
     ensures { (M : Meaning) (x y z : Number) → tree terms.old a ≡ number_tree x → tree terms.old b ≡ number_tree y → tree terms.old c ≡ number_tree z → Answered M terms.old terms.new (leqtrans x y z) result }
 {
-    if (terms.size(a) + terms.size(b) + terms.size(c)) * 2 + 5 > 20_000 {
+    if too_large(size_of_leqtrans(terms, a, b, c)) {
         return Err(Reason::Oversized);
     }
     crowded(keep_leqtrans(terms, a, b, c))
@@ -95,21 +95,8 @@ pub fn sum<A: Arithmetic>(terms: &mut Terms, a: u32, b: u32) -> Result<u32, Reas
     requires right { b < count terms.old }
     ensures { (x y : Number) → tree terms.old a ≡ number_tree x → tree terms.old b ≡ number_tree y → literals_pass A.meaning.admits (number_tree x) ≡ true → literals_pass A.meaning.admits (number_tree y) ≡ true → Answered A.meaning terms.old terms.new (sum x y) result }
 {
-    let Some(m) = literal(terms, a) else {
-        return Err(Reason::Unfounded);
-    };
-    let Some(n) = literal(terms, b) else {
-        return Err(Reason::Unfounded);
-    };
-    match A::sum(m, n) {
-        Some(k) => crowded(join(
-            terms,
-            Binary::Eq,
-            Part::Two(Binary::Add, a, b),
-            Part::Literal(k),
-        )),
-        None => Err(Reason::Unadmitted),
-    }
+    let n = total::<A>(terms, a, b)?;
+    crowded(keep_sum(terms, a, b, n))
 }
 
 // a ≤ b or not a ≤ b, of literals
@@ -119,15 +106,23 @@ pub fn at_most<A: Arithmetic>(terms: &mut Terms, a: u32, b: u32) -> Result<u32, 
     requires right { b < count terms.old }
     ensures { (x y : Number) → tree terms.old a ≡ number_tree x → tree terms.old b ≡ number_tree y → Answered A.meaning terms.old terms.new (atmost x y) result }
 {
-    let Some(m) = literal(terms, a) else {
-        return Err(Reason::Unfounded);
-    };
-    let Some(n) = literal(terms, b) else {
-        return Err(Reason::Unfounded);
-    };
-    if A::at_most(m, n) {
+    if compared::<A>(terms, a, b)? {
         crowded(terms.binary(Binary::Leq, a, b))
     } else {
         crowded(keep_above(terms, a, b))
     }
+}
+
+// a + b ≤ m → -a + c ≤ n → b + c ≤ m + n, where sums are carried
+pub fn pair<A: Arithmetic>(terms: &mut Terms, premise: u32, other: u32) -> Result<u32, Reason>
+    requires well_formed { WellFormed terms.old }
+    requires premise { premise < count terms.old }
+    requires other { other < count terms.old }
+    ensures { (φ ψ : Formula) → tree terms.old premise ≡ formula_tree φ → tree terms.old other ≡ formula_tree ψ → literals_pass A.meaning.admits (formula_tree φ) ≡ true → literals_pass A.meaning.admits (formula_tree ψ) ≡ true → Answered A.meaning terms.old terms.new (pair φ ψ) result }
+{
+    let sum = added::<A>(terms, premise, other)?;
+    if too_large(size_of_pair(terms, premise, other, sum.first, sum.second)) {
+        return Err(Reason::Oversized);
+    }
+    crowded(keep_pair(terms, premise, other, sum.first, sum.second, sum.limit))
 }

@@ -6,5 +6,6 @@ pub mod draft;
 pub mod facts;
 pub mod hypotheses;
 mod making;
+pub mod names;
 pub mod refusal;
 mod shapes;

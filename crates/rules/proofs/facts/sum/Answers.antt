@@ -1,51 +1,29 @@
-use Rattle.std.proofs.Common.{◌≡◌, Some, None, ap, ◌∙◌, subst, ap₂, arith, w64, to_z, of_z, rules}
-use Rattle.arithmetic.specs.Literals.{literal_sum}
+use Rattle.std.proofs.Common.{◌≡◌, ap, ◌∙◌, subst, ap₂, arith, w64, to_z, of_z, rules}
+use Rattle.std.proofs.lemmas.Result.{err_from_is_err_and}
 use Rattle.logic.specs.Facts.{sum}
 use Rattle.logic.specs.Syntax.{lit, add, eq_numbers, equal}
-use Rattle.logic.specs.Tree as trees
-use Rattle.logic.specs.Tree.{leaf, binary, size}
-use Rattle.rules.specs.Shapes.{literal}
-use Rattle.terms.specs.Outcome.{tree, Did}
+use Rattle.logic.specs.Tree.{size, number_tree}
+use Rattle.terms.specs.Outcome.{Did}
+use Rattle.rules.specs.Stating.{sum_tree}
 use Rattle.rules.proofs.Flat.{relate_flat}
-use Rattle.rules.proofs.AnsweredBy.{misshapen_answer, unadmitted_answer, made_answer}
-use Rattle.rules.proofs.Literals.{sum_left_misshapen, sum_right_misshapen, left_admitted, right_admitted, sum_admitted, sum_unadmitted, sum_states, sum_states_none, read_small}
+use Rattle.rules.proofs.AnsweredBy.{stopped_answer, made_answer}
+use Rattle.rules.proofs.Literals.{total_refused, total_states}
 use Rattle.rules.proofs.facts.sum.Goals as goal
 
-pub returns-in_default : goal.returns-in_default
-returns-in_default g c = λ x y e f p q.
-    let h : literal (tree c.args.terms.now c.args.a) ≡ None = search rules in
-    misshapen_answer g.A.Arithmetic.meaning c.args.terms.now (sum x y) c.requires.well_formed (sum_left_misshapen g.A.Arithmetic.meaning x y e f h)
-
-pub returns-in_default-literal : goal.returns-in_default-literal
-returns-in_default-literal g c = λ x y e f p q.
-    let h : literal (tree c.args.terms.now c.args.a) ≡ Some c.in-Some.m = search rules in
-    let k : literal (tree c.args.terms.now c.args.b) ≡ None = search rules in
-    misshapen_answer g.A.Arithmetic.meaning c.args.terms.now (sum x y) c.requires.well_formed (sum_right_misshapen g.A.Arithmetic.meaning x y e f c.in-Some.m h k)
-
-pub returns-in-Some-sum : goal.returns-in-Some-sum
-returns-in-Some-sum g c = λ x y e f p q.
+pub returns-in_err-n : goal.returns-in_err-n
+returns-in_err-n g c = λ x y e f p q.
     let M = g.A.Arithmetic.meaning in
-    let m = c.in-Some.m in
-    let n = c.in-Some-literal.n in
-    let h : literal (tree c.args.terms.now c.args.a) ≡ Some c.in-Some.m = search rules in
-    let k : literal (tree c.args.terms.now c.args.b) ≡ Some c.in-Some-literal.n = search rules in
-    let z = read_small M x y e f m n h k in
-    let s : Some c.in-Some-sum.k ≡ literal_sum g.A.Arithmetic.meaning c.in-Some.m c.in-Some-literal.n = search rules in
-    let r : to_z w64 (of_z w64 c.in-Some-sum.k) ≡ c.in-Some-sum.k = search rules in
-    let a = sum_admitted M m n (left_admitted M x y e f m n h k p) (right_admitted M x y e f m n h k q) c.in-Some-sum.k s in
-    made_answer M c.args.terms.now (sum x y) (eq_numbers (add x y) (lit (M.sum m n))) (sum_states M x y e f m n h k a.0) (relate_flat equal (add x y) (lit (M.sum m n)))
-    (omega (arith, ap size e, ap size f, z.0, z.1)) c.join.new.terms c.join.result c.crowded.result
-    (subst (λ t. Did c.args.terms.now c.join.new.terms t c.join.result) (ap₂ (binary trees.eq) (ap₂ (binary trees.add) e f) (ap (λ v. leaf (trees.lit v)) (r ∙ a.1))) c.join.ensures)
-    c.crowded.ensures
+    let r = c.in_err-n.field-0.0 in
+    let b = err_from_is_err_and c.from_residual.result c.from_residual.ensures.1 in
+    stopped_answer M c.args.terms.now (sum x y) c.requires.well_formed r b.0 c.from_residual.result b.1 b.2
+    (total_refused M x y e f p q r c.in_err-n.ensures)
 
-pub returns-in-None : goal.returns-in-None
-returns-in-None g c = λ x y e f p q.
+pub returns : goal.returns
+returns g c = λ x y e f p q.
     let M = g.A.Arithmetic.meaning in
-    let m = c.in-Some.m in
-    let n = c.in-Some-literal.n in
-    let h : literal (tree c.args.terms.now c.args.a) ≡ Some c.in-Some.m = search rules in
-    let k : literal (tree c.args.terms.now c.args.b) ≡ Some c.in-Some-literal.n = search rules in
-    let z = read_small M x y e f m n h k in
-    let s : None ≡ literal_sum g.A.Arithmetic.meaning c.in-Some.m c.in-Some-literal.n = search rules in
-    unadmitted_answer M c.args.terms.now (sum x y) c.requires.well_formed
-    (sum_states_none M x y e f m n h k (sum_unadmitted M m n (left_admitted M x y e f m n h k p) (right_admitted M x y e f m n h k q) s))
+    let n = c.in_ok-n.n in
+    let z = total_states M x y e f p q n c.in_ok-n.ensures in
+    let r : to_z w64 (of_z w64 c.in_ok-n.n) ≡ c.in_ok-n.n = search rules in
+    made_answer M c.args.terms.now (sum x y) (eq_numbers (add x y) (lit n)) z.0 (relate_flat equal (add x y) (lit n))
+    (omega (arith, ap size e, ap size f, z.1, z.2)) c.keep_sum.new.terms c.keep_sum.result c.crowded.result
+    (subst (λ t. Did c.args.terms.now c.keep_sum.new.terms t c.keep_sum.result) (ap₂ (λ s t. sum_tree s t (to_z w64 (of_z w64 n))) e f ∙ ap (sum_tree (number_tree x) (number_tree y)) r) c.keep_sum.ensures) c.crowded.ensures
