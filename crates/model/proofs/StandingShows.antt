@@ -1,7 +1,7 @@
 -- What a state that stands shows of the terms, proofs and plans that its results hold, and of its stage.
 use Rattle.std.proofs.Common.{◌≡◌, ℕ, ◌<◌, true, ◌&&◌, List, length, sym, refl, ap, ◌∙◌, subst}
 use mathlib.Core.Bool.{false≢true}
-use mathlib.Core.Option.{Option, none, some, none-ne-some}
+use mathlib.Core.Option.{Option, none, some}
 use Rattle.std.proofs.lemmas.Bool.{and_parts}
 use Rattle.logic.specs.Syntax.{Formula, Plan, Proof}
 use Rattle.logic.specs.Tree.{Kind, Tree, parts, literals_pass, stands, plan_tree, proof_tree}

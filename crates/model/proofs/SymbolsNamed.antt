@@ -1,7 +1,6 @@
 -- A term that a command makes names only symbols that are there, and what is there stays there.
 use Rattle.command.specs.declared.command.Command.{Command}
 use Rattle.command.specs.declared.head.Head.{Head}
-use Rattle.command.specs.declared.head.Head.TheVariants as Head
 use Rattle.command.specs.Heads.{coded}
 use Rattle.std.specs.declared.option.Option as Rust
 use Rattle.std.proofs.Common.{◌≡◌, ℕ, zero, suc, Bool, true, false, ◌&&◌, List, [], ◌∷◌, ◌++◌, Some, None, sym, refl, ap, ◌∙◌, subst}

@@ -10,7 +10,6 @@ use Rattle.model.specs.Refusal.{refused}
 use Rattle.model.specs.Session.{stated}
 use Rattle.arithmetic.specs.Literals.{literal_sum}
 use Rattle.rules.specs.declared.refusal.Reason.{Reason}
-use Rattle.rules.specs.declared.refusal.Reason.TheVariants as Reason
 use Rattle.rules.specs.Refusals.{refusal}
 use Rattle.rules.specs.Shapes.{literal, admitted, total, compared}
 

@@ -1,7 +1,7 @@
 -- What a rule concludes of the trees of its premises is the tree of what it concludes of the premises.
 use Rattle.std.proofs.Common.{◌≡◌, Bool, true, false, cond, sym, refl, ap, ◌∙◌, subst, inl, inr}
 use mathlib.Core.Bool.{false≢true, decide_iff}
-use mathlib.Core.Option.{Option, none, some, map}
+use mathlib.Core.Option.{none, some, map}
 use Rattle.logic.specs.Syntax.{Thing, Number, Formula, OnePremise, TwoPremises, falsity, neg, eq_things, implies, and, or, eq_numbers, same, same_thing, same_number}
 use Rattle.logic.specs.Syntax.{nnpp, eqsymm, and1, and2, orimp, addneg, intro, elimnot, mp, eqtrans, negelim}
 use Rattle.logic.specs.Tree as trees

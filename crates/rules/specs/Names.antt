@@ -1,5 +1,5 @@
 -- What the commands of a session gave names to.
-use Rattle.std.specs.Prelude.{ℕ, zero, suc, ◌-◌, cond, List, Some, None, ◌==◌}
+use Rattle.std.specs.Prelude.{ℕ, ◌-◌, cond, List, Some, None, ◌==◌}
 use Rattle.std.proofs.Math.Option.{Option, none, some}
 use Rattle.std.specs.List.{slice_get}
 use Rattle.std.specs.declared.option.Option as std

@@ -4,7 +4,6 @@ use Rattle.logic.specs.Arithmetic.{Arithmetic}
 use Rattle.logic.specs.Tree.{Leaf, Unary, Binary, Tree, leaf, unary, binary, same_tree}
 use Rattle.arithmetic.specs.Literals.{literal_sum}
 use Rattle.rules.specs.declared.refusal.Reason.{Reason}
-use Rattle.rules.specs.declared.refusal.Reason.TheVariants as Reason
 use Rattle.rules.specs.declared.shapes.Bound.{Bound}
 
 -- ---- literals
