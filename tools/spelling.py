@@ -98,10 +98,8 @@ def turned(path, text, table):
     labels = set()
     if is_answer(path):
         for m in LABEL.finditer(text):
-            at = m.start(1)
-            steps = m[1].split(".")[1:]
             # `goal.X`, and the first name behind `c` and `g`, are made by the check
-            labels.add(at + 1)
+            labels.add(m.start(1) + 1)
         made = {m[1] for m in re.finditer(rf"^\s*(?:pub )?(?:abbrev (?:pub )?)?({NAME}) : (?:goal|given)\.", text, re.M)}
     else:
         made = set()
