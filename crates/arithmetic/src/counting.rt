@@ -1,3 +1,4 @@
+ghost use Rattle.std.specs.Prelude.{false, refl};
 ghost use Rattle.logic.specs.Arithmetics.{counts};
 ghost use Rattle.logic.proofs.Arithmetics.{counts_lawful};
 
@@ -11,22 +12,18 @@ impl Arithmetic for Counts {
 
     const CARRIES: bool = false;
 
+    ghost CARRIES = { false };
+
     ghost lawful = { counts_lawful };
 
-    fn carries_sums() -> bool {
-        Self::CARRIES
-    }
+    ghost carries_as_meant = { refl };
 
     fn admits(n: i64) -> bool {
-        0 <= n && n <= 65_535
+        (0..=65_535).contains(&n)
     }
 
     fn sum(a: i64, b: i64) -> Option<i64> {
-        if Self::admits(a) && Self::admits(b) {
-            Some((a + b) % 65_536)
-        } else {
-            None
-        }
+        (Self::admits(a) && Self::admits(b)).then(|| (a + b) % 65_536)
     }
 
     fn at_most(a: i64, b: i64) -> bool {

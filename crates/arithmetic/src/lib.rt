@@ -2,7 +2,7 @@
 // and whether bounds may be added.
 #![tactic(auto)]
 
-ghost use Rattle.std.specs.Prelude.{◌≡◌};
+ghost use Rattle.std.specs.Prelude.{◌≡◌, Bool};
 ghost use Rattle.logic.specs.Arithmetic.{Arithmetic as Meaning, Lawful};
 ghost use Rattle.arithmetic.specs.Literals.{literal_sum};
 
@@ -17,11 +17,10 @@ pub trait Arithmetic {
     // Its numbers, their sum, negative and order, its literals, and whether it carries sums.
     ghost meaning: { Meaning };
 
-    // Whether n ≤ m and j ≤ k give n + j ≤ m + k. Said here once; `carries_sums` ties it to the meaning.
+    // Whether n ≤ m and j ≤ k give n + j ≤ m + k.
     const CARRIES: bool;
 
-    fn carries_sums() -> bool
-        ensures { result ≡ meaning.carries };
+    ghost CARRIES: { Bool };
 
     // Whether n may be written as a literal.
     fn admits(n: i64) -> bool
@@ -31,10 +30,19 @@ pub trait Arithmetic {
     fn sum(a: i64, b: i64) -> Option<i64>
         ensures { result ≡ literal_sum meaning a b };
 
+    // Each arithmetic writes its own, though both compare alike: another one's order may be another.
     fn at_most(a: i64, b: i64) -> bool
         ensures { result ≡ meaning.atmost a b };
 
     ghost lawful: { Lawful meaning };
+
+    ghost carries_as_meant: { CARRIES ≡ meaning.carries };
+
+    final fn carries_sums() -> bool
+        ensures { result ≡ meaning.carries }
+    {
+        Self::CARRIES
+    }
 }
 
 #[cfg(test)]

@@ -1,3 +1,4 @@
+ghost use Rattle.std.specs.Prelude.{true, refl};
 ghost use Rattle.logic.specs.Arithmetics.{whole};
 ghost use Rattle.logic.proofs.Arithmetics.{whole_lawful};
 
@@ -11,22 +12,19 @@ impl Arithmetic for WholeNumbers {
 
     const CARRIES: bool = true;
 
+    ghost CARRIES = { true };
+
     ghost lawful = { whole_lawful };
 
-    fn carries_sums() -> bool {
-        Self::CARRIES
-    }
+    ghost carries_as_meant = { refl };
 
     fn admits(n: i64) -> bool {
-        -1_000_000_000_000_000 <= n && n <= 1_000_000_000_000_000
+        (-1_000_000_000_000_000..=1_000_000_000_000_000).contains(&n)
     }
 
     fn sum(a: i64, b: i64) -> Option<i64> {
-        if !Self::admits(a) || !Self::admits(b) {
-            return None;
-        }
-        let c = a + b;
-        if Self::admits(c) { Some(c) } else { None }
+        a.checked_add(b)
+            .filter(|c| Self::admits(a) && Self::admits(b) && Self::admits(*c))
     }
 
     fn at_most(a: i64, b: i64) -> bool {

@@ -1,4 +1,3 @@
-pub mod Searches
 pub mod Meanings
 pub mod Files
 pub mod Twins

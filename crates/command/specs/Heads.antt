@@ -1,6 +1,7 @@
 -- The heads of commands: the code, the word and the operands of each.
-use Rattle.std.specs.Prelude.{◌≡◌, ℕ, Bool, true, false, cond, ◌↔◌, List, [], ◌∷◌, Some, None as Nothing, codes, Option, ◌==◌}
+use Rattle.std.specs.Prelude.{◌≡◌, ℕ, Bool, true, false, ◌↔◌, List, [], ◌∷◌, Some, codes, Option, ◌==◌}
 use Prim.Native.String.{String}
+use Rattle.std.specs.List.{find}
 use Rattle.std.specs.Str.{bytes_eq}
 use Rattle.command.specs.declared.head.Operands.{Operands}
 use Rattle.command.specs.declared.head.Operands.TheVariants.{None, One, Two, Three, Literal}
@@ -113,12 +114,10 @@ heads =
 
 -- the first of the heads that has the code; that has the word
 abbrev pub coded_among : ℕ → List Head → Option Head
-coded_among n [] = Nothing
-coded_among n (h ∷ hs) = cond (code h == n) (Some h) (coded_among n hs)
+coded_among n = find (λ h. code h == n)
 
 abbrev pub spelled_among : List ℕ → List Head → Option Head
-spelled_among w [] = Nothing
-spelled_among w (h ∷ hs) = cond (bytes_eq (word h) w) (Some h) (spelled_among w hs)
+spelled_among w = find (λ h. bytes_eq (word h) w)
 
 -- the head with the code, if there is one
 abbrev pub coded : ℕ → Option Head

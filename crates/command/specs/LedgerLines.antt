@@ -1,5 +1,5 @@
 -- A ledger line is its head's code and its operands, in one way.
-use Rattle.std.specs.Prelude.{◌≡◌, ℕ, ◌+◌, ◌-◌, ◌^◌, ◌<◌, ◌≤◌, Bool, true, false, List, ◌++◌, length, take, drop, replicate, ℤ, pos, negsuc, Some, None, decimal, Option, ◌≢◌, nat_lt, refl}
+use Rattle.std.specs.Prelude.{◌≡◌, ℕ, ◌+◌, ◌^◌, ◌<◌, ◌≤◌, Bool, true, false, List, ◌++◌, length, take, drop, ℤ, pos, Some, None, decimal, Option, ◌≢◌, nat_lt, refl}
 use Rattle.std.proofs.Common.{sym, ap, ◌∙◌, subst, arith}
 use Rattle.std.specs.Int.Signed.{mag}
 use Rattle.std.proofs.lemmas.Fmt.{length-decimal-le, length_signed_le, decimal_injective, signed_decimal_injective}
@@ -15,7 +15,7 @@ use Rattle.command.specs.Meaning.{Writes, Apart}
 use Rattle.command.specs.Reads.{Reads}
 use Rattle.command.specs.Written.{NumberFits, LiteralFits, Suits, Proper, justified, ledger_operands, ledger_line}
 use Rattle.command.specs.ColumnsLemmas.{after_blanks}
-use Rattle.command.specs.Numeric.{numeric_natural, numeric_signed}
+use Rattle.command.specs.WithoutLemmas.{unblank_natural, unblank_signed}
 use Rattle.command.specs.Operands.{literal_small, same_command, literals_writing}
 use Rattle.command.specs.Words.{passes, same_code, coded_code}
 
@@ -28,7 +28,7 @@ append_same u v x y n e = (
 )
 
 length_justified : (w : ℕ) (s : List ℕ) → length s ≤ w → length (justified w s) ≡ w
-length_justified w s h = length-append (replicate (w - length s) 32) s ∙ ap (λ (k : ℕ). k + length s) (length-replicate (w - length s) 32) ∙ omega arith
+length_justified w s h = omega (arith, length-append {A = ℕ}, length-replicate {A = ℕ})
 
 pub numbers_small : (used : Bool) (n : ℕ) → NumberFits used n → n < 10 ^ 8
 numbers_small true n h = h
@@ -49,7 +49,7 @@ length_literal z h = length_justified 24 (signed_decimal z) (omega (arith, lengt
 -- the number that is justified in a field is one
 pub same_field : (f : List ℕ) (m n : ℕ) → m < 10 ^ 8 → n < 10 ^ 8 → justified (length f) (decimal m) ≡ f → justified (length f) (decimal n) ≡ f → m ≡ n
 same_field f m n hm hn em en =
-    decimal_injective m n (omega arith) (omega arith) (after_blanks f (decimal m) (numeric_natural m hm) em ∙ sym (after_blanks f (decimal n) (numeric_natural n hn) en))
+    decimal_injective m n (omega arith) (omega arith) (after_blanks f (decimal m) (unblank_natural m hm) em ∙ sym (after_blanks f (decimal n) (unblank_natural n hn) en))
 
 length_operands : (h : Head) (x : Command) → Proper h x → length (ledger_operands (uses h).literal x) ≡ 24
 length_operands h x p = by (uses h).literal p.literal
@@ -60,16 +60,13 @@ length_operands h x p = by (uses h).literal p.literal
         let la = length_number x.a (numbers_small (uses h).a x.a p.a) in
         let lb = length_number x.b (numbers_small (uses h).b x.b p.b) in
         let lc = length_number x.c (numbers_small (uses h).c x.c p.c) in
-        let f : List ℕ = justified 8 (decimal x.a) in
-        let g : List ℕ = justified 8 (decimal x.b) in
-        let k : List ℕ = justified 8 (decimal x.c) in
-        length-append f (g ++ k) ∙ ap (λ (n : ℕ). length f + n) (length-append g k) ∙ omega arith
+        omega (arith, length-append {A = ℕ})
 
 pub length_line : (h : Head) (x : Command) → Proper h x → length (ledger_line h x) ≡ 28
 length_line h x p =
     let c = length_code h in
     let o = length_operands h x p in
-    length-append (justified 4 (decimal (code h))) (ledger_operands (uses h).literal x) ∙ omega arith
+    omega (arith, length-append {A = ℕ})
 
 -- ---- two commands do not have the same line
 
@@ -88,8 +85,8 @@ operands_same true u n x y lit only sx sy e =
     let f = justified 24 (signed_decimal y.literal) in
     let l = length_literal y.literal hy in
     let s : signed_decimal x.literal ≡ signed_decimal y.literal =
-    after_blanks f (signed_decimal x.literal) (numeric_signed x.literal hx) (ap (λ (k : ℕ). justified k (signed_decimal x.literal)) l ∙ e)
-    ∙ sym (after_blanks f (signed_decimal y.literal) (numeric_signed y.literal hy) (ap (λ (k : ℕ). justified k (signed_decimal y.literal)) l))
+    after_blanks f (signed_decimal x.literal) (unblank_signed x.literal vx.literal) (ap (λ (k : ℕ). justified k (signed_decimal x.literal)) l ∙ e)
+    ∙ sym (after_blanks f (signed_decimal y.literal) (unblank_signed y.literal vy.literal) (ap (λ (k : ℕ). justified k (signed_decimal y.literal)) l))
     in
     same_command x y (sx.head ∙ sym sy.head) (zero_same x.a y.a vx.a vy.a) (zero_same x.b y.b vx.b vy.b) (zero_same x.c y.c vx.c vy.c) (signed_decimal_injective x.literal y.literal hx hy s)
   where
@@ -102,8 +99,8 @@ operands_same false u n x y lit only sx sy e =
     let ya = numbers_small u.a y.a sy.a in
     let yb = numbers_small u.b y.b sy.b in
     let yc = numbers_small u.c y.c sy.c in
-    let first = append_same (justified 8 (decimal x.a)) (justified 8 (decimal y.a)) (justified 8 (decimal x.b) ++ justified 8 (decimal x.c)) (justified 8 (decimal y.b) ++ justified 8 (decimal y.c)) (length_number x.a xa ∙ sym (length_number y.a ya)) e in
-    let second = append_same (justified 8 (decimal x.b)) (justified 8 (decimal y.b)) (justified 8 (decimal x.c)) (justified 8 (decimal y.c)) (length_number x.b xb ∙ sym (length_number y.b yb)) first.1 in
+    let first = append_same _ _ _ _ (length_number x.a xa ∙ sym (length_number y.a ya)) e in
+    let second = append_same _ _ _ _ (length_number x.b xb ∙ sym (length_number y.b yb)) first.1 in
     same_command x y (sx.head ∙ sym sy.head)
     (same_justified 8 x.a y.a xa ya (length_number y.a ya) first.0)
     (same_justified 8 x.b y.b xb yb (length_number y.b yb) second.0)
@@ -112,20 +109,16 @@ operands_same false u n x y lit only sx sy e =
 
 -- only the operands of a literal use one
 literal_alone : (k : Operands) → (used_by k).literal ≡ true → used_by k ≡ used_by Operands.Literal
-literal_alone Operands.None e = let z : ◌≡◌ {A = ℕ} 0 1 = cc in absurd (omega arith)
-literal_alone Operands.One e = let z : ◌≡◌ {A = ℕ} 0 1 = cc in absurd (omega arith)
-literal_alone Operands.Two e = let z : ◌≡◌ {A = ℕ} 0 1 = cc in absurd (omega arith)
-literal_alone Operands.Three e = let z : ◌≡◌ {A = ℕ} 0 1 = cc in absurd (omega arith)
 literal_alone Operands.Literal e = refl
+literal_alone k e = cc
 
 pub ledger_apart : Apart ledger_line
 ledger_apart g h x y px py e =
-    let s = append_same (justified 4 (decimal (code g))) (justified 4 (decimal (code h))) (ledger_operands (uses g).literal x) (ledger_operands (uses h).literal y) (length_code g ∙ sym (length_code h)) e in
+    let s = append_same _ _ _ _ (length_code g ∙ sym (length_code h)) e in
     let cg = code_small g in
     let ch = code_small h in
     let same : g ≡ h = same_code g h (same_justified 4 (code g) (code h) (omega arith) (omega arith) (length_code h) s.0) in
-    operands_same (uses h).literal (uses h) (code h) x y refl (literal_alone (operands h)) (subst (λ (k : Head). Proper k x) same px) py
-    (ap (λ (k : Head). ledger_operands (uses k).literal x) (sym same) ∙ s.1)
+    operands_same (uses h).literal (uses h) (code h) x y refl (literal_alone (operands h)) (rw same at px) py (rw same at s.1)
 
 pub written_length : (line : List ℕ) (x : Command) → Writes ledger_line line x → length line ≡ 28
 written_length line x (h, proper, e) = ap length (sym e) ∙ length_line h x proper
@@ -133,17 +126,13 @@ written_length line x (h, proper, e) = ap length (sym e) ∙ length_line h x pro
 -- ---- the code, and what stands after it
 
 pub not_literal : (k : Operands) → (k ≢ Operands.Literal) → (used_by k).literal ≡ false
-not_literal Operands.None other = refl
-not_literal Operands.One other = refl
-not_literal Operands.Two other = refl
-not_literal Operands.Three other = refl
 not_literal Operands.Literal other = absurd (other refl)
+not_literal k other = refl
 
 module _ (line : List ℕ) (long : length line ≡ 28) where
   parts_of : (h : Head) (x : Command) → ledger_line h x ≡ line → (justified 4 (decimal (code h)) ≡ take 4 line) × (ledger_operands (uses h).literal x ≡ drop 4 line)
   parts_of h x e =
-      append_same (justified 4 (decimal (code h))) (take 4 line) (ledger_operands (uses h).literal x) (drop 4 line)
-      (length_code h ∙ sym (length-take 4 line ∙ omega arith)) (e ∙ sym (take-append-drop 4 line))
+      append_same _ _ _ _ (length_code h ∙ sym (length-take 4 line ∙ omega arith)) (e ∙ sym (take-append-drop 4 line))
 
   four : length (take 4 line) ≡ 4
   four = length-take 4 line ∙ omega arith
@@ -161,8 +150,7 @@ module _ (line : List ℕ) (long : length line ≡ 28) where
     pub none_with_code : None ≡ coded n → (x : Command) → Writes ledger_line line x → ⊥
     none_with_code none x (h, proper, e) =
         let f : None ≡ Some h = none ∙ ap coded (sym (code_is h x e)) ∙ coded_code h in
-        let z : ◌≡◌ {A = ℕ} 0 1 = cc in
-        omega arith
+        cc
 
     module _ (h : Head) (named : code h ≡ n) where
       abbrev RestOf : Uses → Option Command → Type 0
@@ -172,29 +160,23 @@ module _ (line : List ℕ) (long : length line ≡ 28) where
       with_head None none = λ x w.
           let g = w.0 in
           let same : g ≡ h = same_code g h (code_is g x w.2 ∙ sym named) in
-          none x (
-            subst (λ (m : ℕ). Suits (uses h) m x) named (subst (λ (k : Head). Proper k x) same w.1),
-            ap (λ (k : Head). ledger_operands (uses k).literal x) (sym same) ∙ (parts_of g x w.2).1,
-          )
+          none x (rw (same, named) at w.1, rw same at (parts_of g x w.2).1)
       with_head (Some x) (suits, e) = (
         h,
-        subst (λ (m : ℕ). Suits (uses h) m x) (sym named) suits,
-        ap (λ (l : List ℕ). justified 4 (decimal (code h)) ++ l) e
-            ∙ ap (λ (l : List ℕ). l ++ drop 4 line) (ap (λ (m : ℕ). justified 4 (decimal m)) named ∙ ap (λ (w : ℕ). justified w (decimal n)) (sym four) ∙ is)
-            ∙ take-append-drop 4 line,
+        rw named suits,
+        rw (e, named, rw four at is) (take-append-drop 4 line),
       )
 
       pub line_with_code : (k : Operands) → k ≡ operands h → (r : Option Command) → RestOf (used_by k) r → Reads (Writes ledger_line line) r
-      line_with_code k e r rest = with_head r (subst (λ (j : Operands). RestOf (used_by j) r) e rest)
+      line_with_code k e r rest = with_head r (rw (← e) rest)
 
       -- no literal
       pub line_with_numbers :
           (k : Operands) (u : Uses) → k ≡ operands h → u ≡ used_by k → (k ≢ Operands.Literal) → (r : Option Command)
           → Reads (λ x. Suits u n x × (ledger_operands false x ≡ drop 4 line)) r → Reads (Writes ledger_line line) r
       line_with_numbers k u ek eu other r rest =
-          line_with_code k ek r
-          (subst (λ (v : Uses). RestOf v r) eu
-          (subst (λ (b : Bool). Reads (λ x. Suits u n x × (ledger_operands b x ≡ drop 4 line)) r) (sym (ap (λ (v : Uses). v.literal) eu ∙ not_literal k other)) rest))
+          let plain : u.literal ≡ false = ap (λ (v : Uses). v.literal) eu ∙ not_literal k other in
+          line_with_code k ek r (rw (← eu) (subst (λ (b : Bool). Reads (λ x. Suits u n x × (ledger_operands b x ≡ drop 4 line)) r) (sym plain) rest))
 
 -- ---- the operands
 
@@ -206,20 +188,16 @@ module _ (line : List ℕ) (long : length line ≡ 28) where
   twenty_four = ap length rest_is ∙ length-drop 4 line ∙ omega arith
 
   pub none_without_literal :
-      (n : ℕ) → ((z : ℤ) → (mag z < 2 ^ 63) × (justified (length (take 24 (drop 4 line))) (signed_decimal z) ≡ take 24 (drop 4 line)) → ⊥)
+      (n : ℕ) → ((z : ℤ) → LiteralFits true z × (justified (length (take 24 (drop 4 line))) (signed_decimal z) ≡ take 24 (drop 4 line)) → ⊥)
       → (x : Command) → Suits (used_by Operands.Literal) n x × (ledger_operands true x ≡ drop 4 line) → ⊥
   none_without_literal n none x (suits, e) =
-      none x.literal (literal_small x.literal suits.literal, ap (λ (w : ℕ). justified w (signed_decimal x.literal)) twenty_four ∙ e ∙ sym rest_is)
-
-  literal_fits : (z : ℤ) → mag z < 2 ^ 63 → LiteralFits true z
-  literal_fits (pos n) h = h
-  literal_fits (negsuc n) h = h
+      none x.literal (suits.literal, ap (λ (w : ℕ). justified w (signed_decimal x.literal)) twenty_four ∙ e ∙ sym rest_is)
 
   pub literal_line :
-      (n : ℕ) (z : ℤ) → (mag z < 2 ^ 63) × (justified (length (take 24 (drop 4 line))) (signed_decimal z) ≡ take 24 (drop 4 line))
+      (n : ℕ) (z : ℤ) → LiteralFits true z × (justified (length (take 24 (drop 4 line))) (signed_decimal z) ≡ take 24 (drop 4 line))
       → Suits (used_by Operands.Literal) n (record { code = n; a = 0; b = 0; c = 0; literal = z }) × (justified 24 (signed_decimal z) ≡ drop 4 line)
   literal_line n z (small, e) = (
-    record { head = refl; a = omega arith; b = omega arith; c = omega arith; literal = literal_fits z small },
+    record { head = refl; a = omega arith; b = omega arith; c = omega arith; literal = small },
     ap (λ (w : ℕ). justified w (signed_decimal z)) (sym twenty_four) ∙ e ∙ rest_is,
   )
 
@@ -254,7 +232,7 @@ module _ (line : List ℕ) (long : length line ≡ 28) where
         let sb = numbers_small u.b x.b suits.b in
         let sc = numbers_small u.c x.c suits.c in
         let first = append_same (justified 8 (decimal x.a)) (take 8 (drop 4 line)) (justified 8 (decimal x.b) ++ justified 8 (decimal x.c)) (take 8 (drop 12 line) ++ take 8 (drop 20 line)) (length_number x.a sa ∙ sym (eight 4 (omega arith))) (e ∙ three_fields) in
-        let second = append_same (justified 8 (decimal x.b)) (take 8 (drop 12 line)) (justified 8 (decimal x.c)) (take 8 (drop 20 line)) (length_number x.b sb ∙ sym (eight 12 (omega arith))) first.1 in
+        let second = append_same _ _ _ _ (length_number x.b sb ∙ sym (eight 12 (omega arith))) first.1 in
         (in_eight 4 x.a (omega arith) sa first.0, in_eight 12 x.b (omega arith) sb second.0, in_eight 20 x.c (omega arith) sc second.1)
 
     pub none_without_a : ((m : ℕ) → At 4 m → ⊥) → (x : Command) → LineOf x → ⊥
@@ -273,18 +251,11 @@ module _ (line : List ℕ) (long : length line ≡ 28) where
       pub none_if_unfit : (NumberFits u.a a × NumberFits u.b b × NumberFits u.c c → ⊥) → (x : Command) → LineOf x → ⊥
       none_if_unfit unfit x l =
           let f = fields_are x l in
-          unfit (
-            subst (NumberFits u.a) (same_at 4 x.a a f.0 at_a) l.0.a,
-            subst (NumberFits u.b) (same_at 12 x.b b f.1 at_b) l.0.b,
-            subst (NumberFits u.c) (same_at 20 x.c c f.2 at_c) l.0.c,
-          )
+          unfit (rw (same_at 4 x.a a f.0 at_a) at l.0.a, rw (same_at 12 x.b b f.1 at_b) at l.0.b, rw (same_at 20 x.c c f.2 at_c) at l.0.c)
 
       pub numbers_line :
           u.literal ≡ false → NumberFits u.a a × NumberFits u.b b × NumberFits u.c c → LineOf (record { code = n; a = a; b = b; c = c; literal = pos 0 })
       numbers_line plain (fa, fb, fc) = (
         record { head = refl; a = fa; b = fb; c = fc; literal = subst (λ (v : Bool). LiteralFits v (pos 0)) (sym plain) (omega arith) },
-        ap (λ (l : List ℕ). l ++ (justified 8 (decimal b) ++ justified 8 (decimal c))) (of_eight 4 a (omega arith) at_a)
-            ∙ ap (λ (l : List ℕ). take 8 (drop 4 line) ++ (l ++ justified 8 (decimal c))) (of_eight 12 b (omega arith) at_b)
-            ∙ ap (λ (l : List ℕ). take 8 (drop 4 line) ++ (take 8 (drop 12 line) ++ l)) (of_eight 20 c (omega arith) at_c)
-            ∙ sym three_fields,
+        rw (of_eight 4 a (omega arith) at_a, of_eight 12 b (omega arith) at_b, of_eight 20 c (omega arith) at_c) (sym three_fields),
       )

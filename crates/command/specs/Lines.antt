@@ -1,12 +1,13 @@
 -- The lines of a file, and its items.
-use Rattle.std.specs.Prelude.{◌≡◌, ℕ, suc, ◌+◌, ◌<◌, ◌≤◌, min, cond, List, [], ◌∷◌, ◌++◌, length, Some, None, Option, ◌==◌, ◌≢◌, nat_lt}
+use Rattle.std.specs.Prelude.{◌≡◌, ℕ, suc, ◌+◌, ◌<◌, ◌≤◌, min, cond, List, [], ◌∷◌, ◌++◌, length, Some, None, Option, ◌==◌, nat_lt}
 use Rattle.std.specs.Borrow.{Bor}
+use Rattle.std.specs.List.{position_or_len}
 use Rattle.command.specs.declared.command.Command.{Command}
-use Rattle.command.specs.declared.command.Content.{Content}
 use Rattle.command.specs.declared.command.Item.{Item}
 use Rattle.command.specs.declared.head.Head.{Head}
 use Rattle.command.specs.declared.survey.Survey.{Survey}
 use Rattle.command.specs.Meaning.{Form, meaning}
+use Rattle.command.specs.Without.{Without}
 use Rattle.command.specs.Written.{Proper, text_line, ledger_line}
 
 -- A line ends with byte 10. What stands after the last byte 10, if anything does, is a line that has no end.
@@ -24,15 +25,11 @@ abbrev pub lines : List ℕ → List Line
 lines [] = []
 lines (b ∷ bs) = cond (b == 10) (ended [] ∷ lines bs) (prepended b (lines bs))
 
-abbrev pub command_or_spoiled : Option Command → Content
-command_or_spoiled (Some x) = Content.Command x
-command_or_spoiled None = Content.Spoiled
-
 module _ (form : Form) where
   -- a line is the command that it means; it is spoiled if it means none or has no end
-  abbrev pub content : Line → Content
-  content (ended l) = command_or_spoiled (meaning form l)
-  content (endless l) = Content.Spoiled
+  abbrev pub content : Line → Option Command
+  content (ended l) = meaning form l
+  content (endless l) = None
 
   -- the items of the lines, which are numbered from n on
   abbrev pub items_from : ℕ → List Line → List Item
@@ -45,7 +42,7 @@ module _ (form : Form) where
 
   -- the items of a file; one with more bytes than the limit is one spoiled line
   abbrev pub items : ℕ → List ℕ → List Item
-  items limit bytes = cond (nat_lt limit (length bytes)) (record { line = 1; content = Content.Spoiled } ∷ []) (remaining 1 bytes)
+  items limit bytes = cond (nat_lt limit (length bytes)) (record { line = 1; content = None } ∷ []) (remaining 1 bytes)
 
 -- a reader's next item, and what is left then
 abbrev pub next_of : List Item → Option Item
@@ -63,8 +60,7 @@ Numbered (x ∷ xs) = (1 ≤ x.line) × (x.line ≤ 99_999_998) × Numbered xs
 
 -- how many bytes stand before the first byte 10
 abbrev pub line_length : List ℕ → ℕ
-line_length [] = 0
-line_length (b ∷ bs) = cond (b == 10) 0 (suc (line_length bs))
+line_length = position_or_len (λ b. b == 10)
 
 -- the first item of what is left and the bytes after it, which are fewer; nothing where nothing is left
 abbrev pub Step : Form → ℕ → List ℕ → Option (Item × Bor (List ℕ)) → Type 0
@@ -86,7 +82,7 @@ file form (w ∷ ws) = form w.head w.command ++ (10 ∷ file form ws)
 -- the commands as items, numbered from n on
 abbrev pub commands_from : ℕ → List WrittenCommand → List Item
 commands_from n [] = []
-commands_from n (w ∷ ws) = record { line = n; content = Content.Command w.command } ∷ commands_from (suc n) ws
+commands_from n (w ∷ ws) = record { line = n; content = Some w.command } ∷ commands_from (suc n) ws
 
 -- the items of a file that was written, and is not too long, are the commands that it was written from
 abbrev pub ReadsBack : Form → Type 0
@@ -100,8 +96,7 @@ TwinsReadAlike =
 
 -- no byte 10 stands in the line
 abbrev pub Unbroken : List ℕ → Type 0
-Unbroken [] = Unit {0}
-Unbroken (b ∷ bs) = (b ≢ 10) × Unbroken bs
+Unbroken = Without 10
 
 abbrev pub LinesUnbroken : Form → Type 0
 LinesUnbroken form = (h : Head) (x : Command) → Proper h x → Unbroken (form h x)
@@ -112,14 +107,14 @@ LinesUnbroken form = (h : Head) (x : Command) → Proper h x → Unbroken (form 
 abbrev pub one_more : ℕ → ℕ
 one_more n = min (n + 1) 4_294_967_295
 
-abbrev pub counted : Content → ℕ → ℕ
-counted (Content.Command x) n = one_more n
-counted Content.Spoiled n = n
+abbrev pub counted : Option Command → ℕ → ℕ
+counted (Some x) n = one_more n
+counted None n = n
 
 -- the number of the first spoiled line: the one found before, or this one
-abbrev pub spoiled_at : Content → ℕ → Option ℕ
-spoiled_at (Content.Command x) n = None
-spoiled_at Content.Spoiled n = Some n
+abbrev pub spoiled_at : Option Command → ℕ → Option ℕ
+spoiled_at (Some x) n = None
+spoiled_at None n = Some n
 
 abbrev pub first_spoiled : Option ℕ → Item → Option ℕ
 first_spoiled (Some n) x = Some n

@@ -1,12 +1,12 @@
 -- Reading a decimal number digit by digit, from the left.
 use Rattle.std.specs.Prelude.{◌≡◌, ℕ, zero, suc, ◌+◌, ◌-◌, ◌*◌, ◌^◌, ◌<◌, ◌≤◌, Bool, true, false, List, [], ◌∷◌, ◌++◌, length, take, drop, ℤ, pos, negsuc, decimal, ◌≢◌, slice_index, slice_index_or, refl}
 use Rattle.std.proofs.Common.{sym, ap, ◌∙◌, subst, ⊎_elim, arith, rules}
-use Rattle.std.specs.Int.Signed.{mag}
 use Rattle.std.proofs.lemmas.Fmt.{decimal-digits_value, digits_decimal, digits_value-decimal, decimal_nonempty, first_decimal, decimal_digit, decimal_injective}
-use Rattle.std.proofs.lemmas.List.{take_more, take-append-drop, take_all, drop_more}
+use Rattle.std.proofs.lemmas.List.{take_more, take-append-drop, take_all}
 use Rattle.std.proofs.lemmas.Str.Parse.{IsNumeralModel, numerals_by_fold}
 use Rattle.std.proofs.lemmas.Bool.{cases_lt, both_ways}
 use Rattle.std.specs.Fmt.{signed_decimal}
+use Rattle.command.specs.Written.{LiteralFits}
 
 -- the number n, and after it the digits
 abbrev pub read_on : ℕ → List ℕ → ℕ
@@ -47,11 +47,8 @@ none_read ds = record { digits = tt; value = refl }
 
 pub one_more : (ds : List ℕ) (i v : ℕ) → i < length ds → Read ds i v → 48 ≤ slice_index ds i → slice_index ds i ≤ 57 → Read ds (i + 1) (v * 10 + (slice_index ds i - 48))
 one_more ds i v h r low high = record {
-  digits = subst Digits (sym (take_more ds i 0 h)) (digits_push (take i ds) (slice_index ds i) r.digits low high);
-  value =
-      ap (λ (x : ℕ). x * 10 + (slice_index ds i - 48)) r.value
-      ∙ sym (read_push 0 (take i ds) (slice_index ds i))
-      ∙ ap (read_on 0) (sym (take_more ds i 0 h));
+  digits = rw (take_more ds i 0 h) (digits_push (take i ds) (slice_index ds i) r.digits low high);
+  value = rw (r.value, take_more ds i 0 h) (sym (read_push 0 (take i ds) (slice_index ds i)));
 }
 
 -- a decimal's digits are digits, also at the place i
@@ -107,24 +104,15 @@ all_read ds v most small le r some first =
 
 -- no digit is a minus
 no_minus : (n : ℕ) → n < 2 ^ 63 → (ds : List ℕ) → decimal n ≢ 45 ∷ ds
-no_minus n small ds e = let d : (48 ≤ 45) × (45 ≤ 57) = (digits_of n (45 ∷ ds) (omega arith) e).0 in omega arith
+no_minus n small ds e = omega (arith, (digits_of n (45 ∷ ds) (omega arith) e).0.0)
 
 -- a number below zero is written with a minus, and one more after it
-pub none_below : (ds : List ℕ) → ((n : ℕ) → (n ≤ 2 ^ 63) × (decimal n ≡ ds) → ⊥) → (z : ℤ) → (mag z < 2 ^ 63) × (signed_decimal z ≡ 45 ∷ ds) → ⊥
+pub none_below : (ds : List ℕ) → ((n : ℕ) → (n ≤ 2 ^ 63) × (decimal n ≡ ds) → ⊥) → (z : ℤ) → LiteralFits true z × (signed_decimal z ≡ 45 ∷ ds) → ⊥
 none_below ds no_number (pos n) (small, e) = no_minus n small ds e
 none_below ds no_number (negsuc n) (small, e) = no_number (suc n) (omega arith, ap (drop 1) e)
 
-pub none_minus_zero : (m : ℕ) (ds : List ℕ) → m ≡ 0 → decimal m ≡ ds → (z : ℤ) → (mag z < 2 ^ 63) × (signed_decimal z ≡ 45 ∷ ds) → ⊥
+pub none_minus_zero : (m : ℕ) (ds : List ℕ) → m ≡ 0 → decimal m ≡ ds → (z : ℤ) → LiteralFits true z × (signed_decimal z ≡ 45 ∷ ds) → ⊥
 none_minus_zero m ds zero_m e (pos n) (small, is) = no_minus n small ds is
 none_minus_zero m ds zero_m e (negsuc n) (small, is) =
     let same : suc n ≡ m = decimal_injective (suc n) m (omega arith) (omega arith) (ap (drop 1) is ∙ sym e) in
     omega arith
-
-pub none_signed : (ds : List ℕ) → (0 < length ds → slice_index ds 0 ≢ 45) → ((n : ℕ) → (n ≤ 2 ^ 63 - 1) × (decimal n ≡ ds) → ⊥) → (z : ℤ) → (mag z < 2 ^ 63) × (signed_decimal z ≡ ds) → ⊥
-none_signed ds plain no_number (pos n) (small, e) = no_number n (omega arith, e)
-none_signed ds plain no_number (negsuc n) (small, e) =
-    plain (let l : suc (length (decimal (suc n))) ≡ length ds = ap length e in omega arith) (sym (ap (λ (l : List ℕ). slice_index l 0) e))
-
--- a text that begins with a minus
-pub after_minus : (s : List ℕ) → 0 < length s → slice_index s 0 ≡ 45 → s ≡ 45 ∷ drop 1 s
-after_minus s h e = drop_more s 0 0 h ∙ ap (λ (b : ℕ). b ∷ drop 1 s) e

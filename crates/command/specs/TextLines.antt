@@ -1,17 +1,17 @@
 -- A text line is its head's word and its operands, in one way.
-use Rattle.std.specs.Prelude.{◌≡◌, ℕ, List, ◌++◌, length, drop, Some, None, Option}
-use Rattle.std.proofs.Common.{sym, ap, ◌∙◌, subst}
+use Rattle.std.specs.Prelude.{◌≡◌, ℕ, List, ◌++◌, Some, None, Option}
+use Rattle.std.specs.Borrow.{Bor}
+use Rattle.std.proofs.Common.{sym, ap, ◌∙◌}
 use Rattle.command.specs.declared.command.Command.{Command}
 use Rattle.command.specs.declared.head.Head.{Head}
 use Rattle.command.specs.declared.head.Uses.{Uses}
 use Rattle.command.specs.Heads.{code, word, uses}
 use Rattle.command.specs.Meaning.{Writes, Apart}
 use Rattle.command.specs.Reads.{Reads}
-use Rattle.command.specs.Tokens.{Parted, Begins}
-use Rattle.command.specs.Written.{Suits, Proper, text_operands, text_line}
-use Rattle.command.specs.Begins.{word_unblank}
+use Rattle.command.specs.Fields.{Parted, Begins}
+use Rattle.command.specs.Written.{Suits, text_operands, text_line}
 use Rattle.command.specs.Operands.{parted_operands, operands_apart}
-use Rattle.command.specs.TokensLemmas.{split_same}
+use Rattle.command.specs.FieldsLemmas.{split_same, word_unblank}
 use Rattle.command.specs.Words.{same_word}
 
 -- the word, and what stands after it
@@ -24,24 +24,17 @@ head_is g h x rest p e =
 pub text_apart : Apart text_line
 text_apart g h x y px py e =
     let s = head_is g h x (text_operands (uses h) y) (parted_operands (uses h) y) e in
-    operands_apart (uses h) (code h) x y (subst (λ (k : Head). Proper k x) s.0 px) py (ap (λ (k : Head). text_operands (uses k) x) (sym s.0) ∙ s.1)
+    operands_apart (uses h) (code h) x y (rw s.0 at px) py (rw s.0 at s.1)
 
-pub none_without_head : (line : List ℕ) → Begins line None → (x : Command) → Writes text_line line x → ⊥
-none_without_head line none x (h, proper, e) = none h (text_operands (uses h) x) (parted_operands (uses h) x) (sym e)
+module _ (line : List ℕ) (p : Head × Bor (List ℕ)) (begins : Begins line (Some p)) where
+  abbrev RestOf : Uses → ℕ → Option Command → Type 0
+  RestOf u n r = Reads (λ x. Suits u n x × (p.1.now ≡ text_operands u x)) r
 
-module _ (line : List ℕ) (h : Head) (begins : Begins line (Some h)) where
-  abbrev RestOf : Uses → ℕ → ℕ → Option Command → Type 0
-  RestOf u n k r = Reads (λ x. Suits u n x × (drop k line ≡ text_operands u x)) r
-
-  with_head : (r : Option Command) → RestOf (uses h) (code h) (length (word h)) r → Reads (Writes text_line line) r
+  with_head : (r : Option Command) → RestOf (uses p.0) (code p.0) r → Reads (Writes text_line line) r
   with_head None none = λ x w.
-      let s = head_is w.0 h x (drop (length (word h)) line) begins.1 (w.2 ∙ begins.2) in
-      none x (subst (λ (g : Head). Proper g x) s.0 w.1, sym s.1 ∙ ap (λ (g : Head). text_operands (uses g) x) s.0)
-  with_head (Some x) (suits, e) = (h, suits, sym (begins.2 ∙ ap (λ (l : List ℕ). word h ++ l) e))
+      let s = head_is w.0 p.0 x p.1.now begins.0 (w.2 ∙ begins.1) in
+      none x (rw s.0 at w.1, rw s.0 at (sym s.1))
+  with_head (Some x) (suits, e) = (p.0, suits, sym (begins.1 ∙ ap (λ (l : List ℕ). word p.0 ++ l) e))
 
-  pub line_with_head : (u : Uses) (n k : ℕ) (r : Option Command) → u ≡ uses h → n ≡ code h → k ≡ length (word h) → RestOf u n k r → Reads (Writes text_line line) r
-  line_with_head u n k r eu en ek rest =
-      with_head r
-      (subst (λ (v : Uses). RestOf v (code h) (length (word h)) r) eu
-      (subst (λ (m : ℕ). RestOf u m (length (word h)) r) en
-      (subst (λ (j : ℕ). RestOf u n j r) ek rest)))
+  pub line_with_head : (u : Uses) (n : ℕ) (r : Option Command) → u ≡ uses p.0 → n ≡ code p.0 → RestOf u n r → Reads (Writes text_line line) r
+  line_with_head u n r eu en rest = with_head r (rw (← eu, ← en) rest)

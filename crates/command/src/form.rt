@@ -1,9 +1,10 @@
 // The two written forms of commands, and what both have in common.
-ghost use Rattle.std.specs.Prelude.{◌≡◌, ℕ, List, length};
+ghost use Rattle.std.specs.Prelude.{◌≡◌, ℕ, List};
 ghost use Rattle.command.specs.declared.command.Command.{Command as Written};
 ghost use Rattle.command.specs.declared.head.Head.{Head};
 ghost use Rattle.command.specs.Lines.{LinesUnbroken};
-ghost use Rattle.command.specs.Meaning.{Apart, Means, meaning};
+ghost use Rattle.command.specs.Meaning.{Apart, Means, Writes, meaning};
+ghost use Rattle.command.specs.Reads.{Reads};
 ghost use Rattle.command.specs.Written.{text_line, ledger_line};
 ghost use Rattle.command.specs.TextLines.{text_apart};
 ghost use Rattle.command.specs.Unbroken.{text_unbroken, ledger_unbroken};
@@ -16,13 +17,21 @@ use crate::{ledger, text};
 pub trait Form {
     ghost line: { Head → Written → List ℕ };
 
-    fn read(bytes: &[u8]) -> Option<Command>
-        ensures value { result ≡ meaning line bytes.now }
-        ensures means { Means line bytes.now result };
+    // The command that the line writes.
+    fn command_of(bytes: &[u8]) -> Option<Command>
+        ensures { Reads (Writes line bytes.now) result };
 
     ghost apart: { Apart line };
 
     ghost unbroken: { LinesUnbroken line };
+
+    // The command that the line means.
+    final fn read(bytes: &[u8]) -> Option<Command>
+        ensures value { result ≡ meaning line bytes.now }
+        ensures means { Means line bytes.now result }
+    {
+        Self::command_of(bytes)
+    }
 }
 
 pub struct Text;
@@ -34,8 +43,8 @@ impl Form for Text {
 
     ghost unbroken = { text_unbroken };
 
-    fn read(bytes: &[u8]) -> Option<Command> {
-        text::read(bytes)
+    fn command_of(bytes: &[u8]) -> Option<Command> {
+        text::command_of(bytes)
     }
 }
 
@@ -48,7 +57,7 @@ impl Form for Ledger {
 
     ghost unbroken = { ledger_unbroken };
 
-    fn read(bytes: &[u8]) -> Option<Command> {
-        ledger::read(bytes)
+    fn command_of(bytes: &[u8]) -> Option<Command> {
+        ledger::command_of(bytes)
     }
 }

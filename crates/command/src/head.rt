@@ -1,5 +1,6 @@
 // The heads of commands: each has a code, a word and its operands.
 ghost use Rattle.std.specs.Prelude.{◌≡◌};
+ghost use Rattle.std.specs.Result.{result_ok, IfErr};
 ghost use Rattle.command.specs.Heads.{code, word, operands, used_by, coded, worded, heads, spelled_among, Named};
 
 // What a head is followed by: so many numbers, or one literal.
@@ -25,14 +26,12 @@ impl Operands {
     pub fn uses(self) -> Uses
         ensures { result ≡ used_by self }
     {
-        let (a, b, c, literal) = match self {
-            Operands::None => (false, false, false, false),
-            Operands::One => (true, false, false, false),
-            Operands::Two => (true, true, false, false),
-            Operands::Three => (true, true, true, false),
-            Operands::Literal => (false, false, false, true),
-        };
-        Uses { a, b, c, literal }
+        Uses {
+            a: matches!(self, Operands::One | Operands::Two | Operands::Three),
+            b: matches!(self, Operands::Two | Operands::Three),
+            c: matches!(self, Operands::Three),
+            literal: matches!(self, Operands::Literal),
+        }
     }
 }
 
@@ -163,14 +162,14 @@ impl Head {
     pub fn code(self) -> u32
         ensures { result ≡ code self }
     {
-        self as u32
+        u32::from(self)
     }
 
     pub fn from_code(number: u32) -> Option<Head>
         ensures value { result ≡ coded number }
         ensures names { Named code number result }
     {
-        Head::by_code(number)
+        Head::try_from(number).ok()
     }
 
     pub fn word(self) -> &'static [u8]
@@ -241,7 +240,7 @@ impl Head {
         ensures value { result ≡ worded spelling.now }
         ensures names { Named word spelling.now result }
     {
-        Head::by_word(spelling)
+        spelled_among(&HEADS, spelling)
     }
 
     pub fn operands(self) -> Operands
@@ -305,75 +304,86 @@ impl Head {
             Head::Lit => Operands::Literal,
         }
     }
+}
 
-    fn by_word(spelling: &[u8]) -> Option<Head>
-        ensures { result ≡ spelled_among spelling.now heads }
-    {
-        spelled_among(&HEADS, spelling)
+impl From<Head> for u32 {
+    ghost from_gives = { λ head result. result ≡ code head };
+
+    fn from(head: Head) -> u32 {
+        head as u32
     }
+}
 
-    fn by_code(number: u32) -> Option<Head>
-        ensures { result ≡ coded number }
-    {
+// A number that is no head's code.
+#[derive(Clone, Copy, PartialEq, Eq, Debug)]
+pub struct UnknownCode(pub u32);
+
+impl TryFrom<u32> for Head {
+    type Error = UnknownCode;
+
+    ghost try_from_gives = { λ number result. (result_ok result ≡ coded number) × IfErr result (λ e. e.0 ≡ number) };
+
+    // A `match`: the language has no conversion from a number to a variant.
+    fn try_from(number: u32) -> Result<Head, UnknownCode> {
         match number {
-            1 => Some(Head::Thing),
-            2 => Some(Head::Number),
-            3 => Some(Head::Pred),
-            10 => Some(Head::Var),
-            11 => Some(Head::Nil),
-            12 => Some(Head::Cons),
-            13 => Some(Head::App),
-            14 => Some(Head::Lit),
-            15 => Some(Head::Add),
-            16 => Some(Head::Minus),
-            20 => Some(Head::False),
-            21 => Some(Head::Implies),
-            22 => Some(Head::And),
-            23 => Some(Head::Or),
-            24 => Some(Head::Neg),
-            25 => Some(Head::Eq),
-            26 => Some(Head::Leq),
-            27 => Some(Head::Forall),
-            30 => Some(Head::Id),
-            31 => Some(Head::Skip),
-            32 => Some(Head::Skol),
-            33 => Some(Head::Recand),
-            34 => Some(Head::Recor),
-            35 => Some(Head::Recnor),
-            36 => Some(Head::Recnand),
-            37 => Some(Head::Recnn),
-            40 => Some(Head::Hyp),
-            41 => Some(Head::Known),
-            42 => Some(Head::Assume),
-            43 => Some(Head::Mp),
-            44 => Some(Head::Absurd),
-            45 => Some(Head::Nnpp),
-            46 => Some(Head::Eqrefl),
-            47 => Some(Head::Eqtrans),
-            48 => Some(Head::Eqsymm),
-            49 => Some(Head::Eqsub),
-            50 => Some(Head::And1),
-            51 => Some(Head::And2),
-            52 => Some(Head::Orimp),
-            53 => Some(Head::Negelim),
-            54 => Some(Head::Addneg),
-            55 => Some(Head::Intro),
-            56 => Some(Head::Elimnot),
-            57 => Some(Head::Inst),
-            60 => Some(Head::Sum),
-            61 => Some(Head::Atmost),
-            62 => Some(Head::Cancel),
-            63 => Some(Head::Swap),
-            64 => Some(Head::Eqleq),
-            65 => Some(Head::Leqtrans),
-            66 => Some(Head::Pair),
-            70 => Some(Head::Query),
-            71 => Some(Head::Initial),
-            72 => Some(Head::Let),
-            73 => Some(Head::Same),
-            74 => Some(Head::Shows),
-            75 => Some(Head::Final),
-            _ => None,
+            1 => Ok(Head::Thing),
+            2 => Ok(Head::Number),
+            3 => Ok(Head::Pred),
+            10 => Ok(Head::Var),
+            11 => Ok(Head::Nil),
+            12 => Ok(Head::Cons),
+            13 => Ok(Head::App),
+            14 => Ok(Head::Lit),
+            15 => Ok(Head::Add),
+            16 => Ok(Head::Minus),
+            20 => Ok(Head::False),
+            21 => Ok(Head::Implies),
+            22 => Ok(Head::And),
+            23 => Ok(Head::Or),
+            24 => Ok(Head::Neg),
+            25 => Ok(Head::Eq),
+            26 => Ok(Head::Leq),
+            27 => Ok(Head::Forall),
+            30 => Ok(Head::Id),
+            31 => Ok(Head::Skip),
+            32 => Ok(Head::Skol),
+            33 => Ok(Head::Recand),
+            34 => Ok(Head::Recor),
+            35 => Ok(Head::Recnor),
+            36 => Ok(Head::Recnand),
+            37 => Ok(Head::Recnn),
+            40 => Ok(Head::Hyp),
+            41 => Ok(Head::Known),
+            42 => Ok(Head::Assume),
+            43 => Ok(Head::Mp),
+            44 => Ok(Head::Absurd),
+            45 => Ok(Head::Nnpp),
+            46 => Ok(Head::Eqrefl),
+            47 => Ok(Head::Eqtrans),
+            48 => Ok(Head::Eqsymm),
+            49 => Ok(Head::Eqsub),
+            50 => Ok(Head::And1),
+            51 => Ok(Head::And2),
+            52 => Ok(Head::Orimp),
+            53 => Ok(Head::Negelim),
+            54 => Ok(Head::Addneg),
+            55 => Ok(Head::Intro),
+            56 => Ok(Head::Elimnot),
+            57 => Ok(Head::Inst),
+            60 => Ok(Head::Sum),
+            61 => Ok(Head::Atmost),
+            62 => Ok(Head::Cancel),
+            63 => Ok(Head::Swap),
+            64 => Ok(Head::Eqleq),
+            65 => Ok(Head::Leqtrans),
+            66 => Ok(Head::Pair),
+            70 => Ok(Head::Query),
+            71 => Ok(Head::Initial),
+            72 => Ok(Head::Let),
+            73 => Ok(Head::Same),
+            74 => Ok(Head::Shows),
+            75 => Ok(Head::Final),
+            _ => Err(UnknownCode(number)),
         }
     }
 }
@@ -382,10 +392,5 @@ impl Head {
 fn spelled_among(heads: &[Head], spelling: &[u8]) -> Option<Head>
     ensures { result ≡ spelled_among spelling.now heads.now }
 {
-    for head in heads {
-        if head.word() == spelling {
-            return Some(*head);
-        }
-    }
-    None
+    heads.iter().copied().find(|head| head.word() == spelling)
 }

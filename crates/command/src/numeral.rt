@@ -1,8 +1,10 @@
 // Numbers as they are written: decimal, no leading zeros, no minus before 0.
-ghost use Rattle.std.specs.Prelude.{◌≡◌, ℕ, ◌+◌, ◌-◌, ◌*◌, ◌^◌, ◌<◌, ◌≤◌, ◌∷◌, length, ℤ, negsuc, decimal, Decides, slice_index};
-ghost use Rattle.std.specs.Int.Signed.{mag};
+ghost use Rattle.std.specs.Prelude.{◌≡◌, ℕ, ◌+◌, ◌-◌, ◌*◌, ◌<◌, ◌≤◌, Bool, true, false, List, ◌∷◌, length, decimal, Decides, slice_index};
 ghost use Rattle.std.specs.Fmt.{signed_decimal};
+ghost use Rattle.command.specs.Fields.{Unblank};
+ghost use Rattle.command.specs.WithoutLemmas.{unblank_natural, unblank_signed};
 ghost use Rattle.command.specs.Reads.{Reads};
+ghost use Rattle.command.specs.Written.{NumberFits, LiteralFits};
 
 const MOST_NATURAL: u64 = 99_999_999;
 
@@ -17,7 +19,7 @@ fn appended(value: u64, byte: u8, most: u64) -> Option<u64>
     match byte {
         b'0'..=b'9' => {
             let more = value.checked_mul(10)?.checked_add(u64::from(byte - b'0'))?;
-            if more <= most { Some(more) } else { None }
+            Some(more).filter(|more| *more <= most)
         }
         _ => None,
     }
@@ -29,7 +31,7 @@ fn has_leading_zero(digits: &[u8]) -> bool
     digits.len() > 1 && digits[0] == b'0'
 }
 
-// The number, at most `most`, that the digits write.
+// The number, at most `most`, that the digits write. Digit by digit, since the library's `parse` also takes a plus and leading zeros.
 fn magnitude(digits: &[u8], most: u64) -> Option<u64>
     ensures { Reads (λ n. (n ≤ most) × (decimal n ≡ digits.now)) result }
 {
@@ -46,44 +48,66 @@ fn magnitude(digits: &[u8], most: u64) -> Option<u64>
     Some(value)
 }
 
-// A number of at most eight digits.
-pub fn natural(spelling: &[u8]) -> Option<u32>
-    ensures { Reads (λ n. (n < 10 ^ 8) × (decimal n ≡ spelling.now)) result }
-{
-    match magnitude(spelling, MOST_NATURAL) {
-        Some(n) => Some(n as u32),
-        None => None,
-    }
-}
-
-// -(n + 1)
-fn below_zero_by(n: u64) -> i64
-    requires { n < 2 ^ 63 }
-    ensures { result ≡ negsuc n }
-{
-    -(n as i64) - 1
-}
-
 // The number that stands after a minus: not 0, and at most 2^63.
 fn below_zero(digits: &[u8]) -> Option<i64>
-    ensures { Reads (λ z. (mag z < 2 ^ 63) × (signed_decimal z ≡ 45 ∷ digits.now)) result }
+    ensures { Reads (λ z. LiteralFits true z × (signed_decimal z ≡ 45 ∷ digits.now)) result }
 {
-    let n = magnitude(digits, MOST_NEGATIVE)?;
-    if n == 0 {
-        return None;
+    match magnitude(digits, MOST_NEGATIVE)? {
+        0 => None,
+        n => 0i64.checked_sub_unsigned(n),
     }
-    Some(below_zero_by(n - 1))
 }
 
-// A signed number of 64 bits.
-pub fn literal(spelling: &[u8]) -> Option<i64>
-    ensures { Reads (λ z. (mag z < 2 ^ 63) × (signed_decimal z ≡ spelling.now)) result }
-{
-    if !spelling.is_empty() && spelling[0] == b'-' {
-        return below_zero(&spelling[1..]);
+// The numbers that operands are: what is written of each, and which ones fit an operand that is used, or is not.
+pub trait Numeral: Sized {
+    ghost written: { Self → List ℕ };
+
+    ghost fits: { Bool → Self → Type 0 };
+
+    // What stands for an operand that is not used.
+    fn unused() -> Self
+        ensures { fits false result };
+
+    // The number that is spelled so.
+    fn read(spelling: &[u8]) -> Option<Self>
+        ensures { Reads (λ n. fits true n × (written n ≡ spelling.now)) result };
+
+    ghost unblank: { (n : Self) → fits true n → Unblank (written n) };
+}
+
+// Numbers of at most eight digits.
+impl Numeral for u32 {
+    ghost written = { decimal };
+
+    ghost fits = { NumberFits };
+
+    ghost unblank = { unblank_natural };
+
+    fn unused() -> u32 {
+        0
     }
-    match magnitude(spelling, MOST_POSITIVE) {
-        Some(n) => Some(n as i64),
-        None => None,
+
+    fn read(spelling: &[u8]) -> Option<u32> {
+        magnitude(spelling, MOST_NATURAL).map(|n| n as u32)
+    }
+}
+
+// Signed numbers of 64 bits.
+impl Numeral for i64 {
+    ghost written = { signed_decimal };
+
+    ghost fits = { LiteralFits };
+
+    ghost unblank = { unblank_signed };
+
+    fn unused() -> i64 {
+        0
+    }
+
+    fn read(spelling: &[u8]) -> Option<i64> {
+        match spelling.strip_prefix(b"-") {
+            Some(digits) => below_zero(digits),
+            None => magnitude(spelling, MOST_POSITIVE).map(|n| n as i64),
+        }
     }
 }

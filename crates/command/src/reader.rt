@@ -6,6 +6,7 @@ ghost use Rattle.command.specs.Lines.{next_of, rest_of, Numbered};
 use crate::command::Item;
 
 // A reader has a list of items left. Asking for the next hands out the first and keeps the rest; at the end it says so each time.
+// Not an `Iterator`, which is no plainer: generic callers rest on `left` and on the numbers' range, of which its `next` says nothing.
 pub trait Reader {
     ghost left: { Self → List Listed };
 

@@ -1,13 +1,13 @@
 // What a reader has left, in numbers.
-ghost use Rattle.std.specs.Prelude.{◌≡◌, ℕ, None};
+ghost use Rattle.std.specs.Prelude.{◌≡◌, None};
 ghost use Rattle.command.specs.Lines.{noted, surveyed};
 
-use crate::command::{Content, Item};
+use crate::command::Item;
 use crate::reader::Reader;
 use std::fmt;
 
 // How many lines and commands there are, and the first spoiled line.
-#[derive(Clone, Copy, PartialEq, Eq, Debug)]
+#[derive(Clone, Copy, PartialEq, Eq, Debug, Default)]
 pub struct Survey {
     pub lines: u32,
     pub commands: u32,
@@ -20,12 +20,12 @@ impl Survey {
     {
         let lines = self.lines.saturating_add(1);
         match item.content {
-            Content::Command(_) => Survey {
+            Some(_) => Survey {
                 lines,
                 commands: self.commands.saturating_add(1),
                 spoiled: self.spoiled,
             },
-            Content::Spoiled => Survey {
+            None => Survey {
                 lines,
                 commands: self.commands,
                 spoiled: Some(self.spoiled.unwrap_or(item.line)),
@@ -37,11 +37,8 @@ impl Survey {
     pub fn of<R: Reader + Drop>(mut reader: R) -> Survey
         ensures { result ≡ surveyed (record { lines = 0; commands = 0; spoiled = None }) (R.left reader) }
     {
-        let mut survey = Survey {
-            lines: 0,
-            commands: 0,
-            spoiled: None,
-        };
+        let mut survey = Survey::default();
+        // A `while let`, since a `Reader` is no `Iterator`: see there.
         while let Some(item) = reader.next() {
             survey = survey.noted(item);
         }

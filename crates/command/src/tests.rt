@@ -1,5 +1,5 @@
 // Examples of lines and files.
-use crate::command::{Command, Content, Item};
+use crate::command::{Command, Item};
 use crate::form::{Form, Ledger, Text};
 use crate::line_reader::LineReader;
 use crate::reader::Reader;
@@ -82,28 +82,28 @@ fn spoiled_lines_leave_the_others(rt: HostRuntime) {
         reader.next(),
         Some(Item {
             line: 1,
-            content: Content::Command(NIL),
+            content: Some(NIL),
         })
     );
     assert_eq!(rt;
         reader.next(),
         Some(Item {
             line: 2,
-            content: Content::Spoiled,
+            content: None,
         })
     );
     assert_eq!(rt;
         reader.next(),
         Some(Item {
             line: 3,
-            content: Content::Command(NIL),
+            content: Some(NIL),
         })
     );
     assert_eq!(rt;
         reader.next(),
         Some(Item {
             line: 4,
-            content: Content::Spoiled,
+            content: None,
         })
     );
     assert_eq!(rt; reader.next(), None);

@@ -17,12 +17,9 @@ fn survey<F: Form>(bytes: &[u8]) -> Survey {
 
 // A file that can't be read is empty.
 fn report(rt: &HostRuntime, name: &str) -> io::Result<()> {
-    let content = match fs::read(rt, name) {
-        Ok(bytes) => bytes,
-        Err(_) => Vec::new(rt.alloc()),
-    };
-    let text = survey::<Text>(content.as_slice());
-    let ledger = survey::<Ledger>(content.as_slice());
+    let content = fs::read(rt, name).unwrap_or_else(|_| Vec::new(rt.alloc()));
+    let text = survey::<Text>(&content);
+    let ledger = survey::<Ledger>(&content);
     println!(rt; "{name} as text: {text}")?;
     println!(rt; "{name} as a ledger: {ledger}")
 }

@@ -1,7 +1,8 @@
 -- Substitution, proofs and plans keep formulas closed; a closed formula's truth does not depend on the environment.
-use Rattle.std.proofs.Common.{◌≡◌, ℕ, zero, suc, ◌<◌, ◌≤◌, max, true, leb, List, ◌∷◌, get_or, sym, refl, ap, subst, not-suc-le-zero, arith}
-use mathlib.Core.Option.{Option, some}
+use Rattle.std.proofs.Common.{◌≡◌, ℕ, zero, suc, ◌<◌, ◌≤◌, max, true, List, ◌∷◌, get_or, sym, refl, ap, subst, not-suc-le-zero, arith}
+use mathlib.Core.Option.{Option}
 use lib.ListN.{get_elem?}
+use Rattle.std.proofs.Math.Nat.{max-le}
 use Rattle.std.proofs.lemmas.Bool.{leb-true, and_parts}
 use Rattle.logic.specs.Syntax.{Thing, Things, Number, Formula, Plan, Proof, var, apply, nil, cons, lit, add, minus, measure, falsity, connect, neg, eq_things, relate, atom, forall}
 use Rattle.logic.specs.Substitution.{put}
@@ -14,14 +15,15 @@ use Rattle.logic.specs.Rules.{by_eqsymm_things, by_eqsymm_numbers, by_eqsub, by_
 use Rattle.logic.specs.Plans.{Turns, scope}
 use Rattle.logic.specs.Plans.{by_id, by_skip, by_skol, by_recand, by_recor, by_recnor, by_recnand, by_recnn}
 use Rattle.logic.specs.Closed.{below, closed, closed_proof}
+use Rattle.logic.proofs.Hypotheses.{Each, one_more}
 use Rattle.logic.proofs.Values.{every_same}
-use Rattle.logic.proofs.Trees.{put_formula_tree, put_tree_open, raise_things_tree, raise_open, pred_le, le_pred, max_parts, max_from}
+use Rattle.logic.proofs.Trees.{put_formula_tree, put_tree_open, raise_things_tree, raise_open, pred_le, le_pred, max_parts}
 
 -- the open indices of a thing and of a formula
 abbrev open_thing : Thing → ℕ
 open_thing t = open_indices (thing_tree t)
 
-abbrev open_number : Number → ℕ
+abbrev pub open_number : Number → ℕ
 open_number a = open_indices (number_tree a)
 
 abbrev open_formula : Formula → ℕ
@@ -32,14 +34,14 @@ scope_open zero = omega arith
 scope_open (suc n) =
     let h = raise_open 1 (things_tree (scope n)) in
     let ih = scope_open n in
-    max_from 1 _ (suc n) (omega arith) (subst (λ x. open_indices x ≤ suc n) (sym (raise_things_tree (scope n))) (omega arith))
+    max-le (omega arith) (subst (λ x. open_indices x ≤ suc n) (sym (raise_things_tree (scope n))) (omega arith))
 
 pub put_open : (k n : ℕ) (t : Thing) (φ : Formula) → k ≤ n → open_thing t ≤ n → open_formula φ ≤ suc n → open_formula (put k t φ) ≤ n
 put_open k n t φ le ht h = subst (λ x. open_indices x ≤ n) (sym (put_formula_tree k t φ)) (put_tree_open k n (thing_tree t) (formula_tree φ) le ht h)
 
 -- both of two
 two : {a b c d n : ℕ} → (a ≤ n → c ≤ n) → (b ≤ n → d ≤ n) → max a b ≤ n → max c d ≤ n
-two {a} {b} {c} {d} {n} f g h = let p = max_parts a b n h in max_from c d n (f p.0) (g p.1)
+two {a} {b} {c} {d} {n} f g h = let p = max_parts a b n h in max-le (f p.0) (g p.1)
 
 pub turned_open : {arity : ℕ → Option ℕ} {n : ℕ} {p : Plan} {φ ψ : Formula} → Turns arity n p φ ψ → open_formula φ ≤ n → open_formula ψ ≤ n
 turned_open by_id h = h
@@ -54,14 +56,7 @@ turned_open (by_recnn d) h = turned_open d h
 -- ---- proofs
 
 abbrev AllClosed : (ℕ → Option Formula) → Type 0
-AllClosed made = (k : ℕ) (φ : Formula) → made k ≡ some φ → open_formula φ ≤ 0
-
-is_below : {m n : ℕ} → leb m n ≡ true → m ≤ n
-is_below {m} {n} h = leb-true m n h
-
-one_more : (φ : Formula) (H : List Formula) → open_formula φ ≤ 0 → AllClosed (get_elem? H) → AllClosed (get_elem? (φ ∷ H))
-one_more φ H h hs zero χ e = let p : φ ≡ χ = cc in subst (λ x. open_formula x ≤ 0) p h
-one_more φ H h hs (suc k) χ e = hs k χ e
+AllClosed = Each (λ φ. open_formula φ ≤ 0)
 
 module _ (made : ℕ → Option Formula) (known_closed : AllClosed made) where
   pub concluded_open : {H : List Formula} {P : Proof} {φ : Formula} → AllClosed (get_elem? H) → Concludes made H P φ → closed_proof P ≡ true → open_formula φ ≤ 0
@@ -69,24 +64,24 @@ module _ (made : ℕ → Option Formula) (known_closed : AllClosed made) where
   concluded_open hs (by_known e) c = known_closed _ _ e
   concluded_open {H} hs (by_assume {P} {φ} d) c =
       let p = and_parts (closed (formula_tree φ)) (closed_proof P) c in
-      max_from _ _ 0 (is_below p.0) (concluded_open (one_more φ H (is_below p.0) hs) d p.1)
+      max-le (leb-true _ _ p.0) (concluded_open (one_more _ φ H (leb-true _ _ p.0) hs) d p.1)
   concluded_open hs (by_mp {P} {Q} {φ} {ψ} d e) c = let p = and_parts (closed_proof P) (closed_proof Q) c in (max_parts (open_formula φ) (open_formula ψ) 0 (concluded_open hs d p.0)).1
-  concluded_open hs (by_absurd {P} {φ} d) c = is_below (and_parts (closed_proof P) (closed (formula_tree φ)) c).1
+  concluded_open hs (by_absurd {P} {φ} d) c = leb-true _ _ (and_parts (closed_proof P) (closed (formula_tree φ)) c).1
   concluded_open hs (by_nnpp {φ} d) c = (max_parts (open_formula φ) 0 0 (max_parts (max (open_formula φ) 0) 0 0 (concluded_open hs d c)).0).0
-  concluded_open hs (by_eqrefl_thing {t}) c = max_from _ _ 0 (is_below c) (is_below c)
-  concluded_open hs (by_eqrefl_number {a}) c = max_from _ _ 0 (is_below c) (is_below c)
+  concluded_open hs (by_eqrefl_thing {t}) c = max-le (leb-true _ _ c) (leb-true _ _ c)
+  concluded_open hs (by_eqrefl_number {a}) c = max-le (leb-true _ _ c) (leb-true _ _ c)
   concluded_open hs (by_eqtrans_things {P} {Q} {t} {u} {v} d e) c =
       let p = and_parts (closed_proof P) (closed_proof Q) c in
-      max_from _ _ 0 (max_parts (open_thing t) (open_thing u) 0 (concluded_open hs d p.0)).0 (max_parts (open_thing u) (open_thing v) 0 (concluded_open hs e p.1)).1
+      max-le (max_parts (open_thing t) (open_thing u) 0 (concluded_open hs d p.0)).0 (max_parts (open_thing u) (open_thing v) 0 (concluded_open hs e p.1)).1
   concluded_open hs (by_eqtrans_numbers {P} {Q} {a = x} {b = y} {c = z} d e) c =
       let p = and_parts (closed_proof P) (closed_proof Q) c in
-      max_from _ _ 0 (max_parts (open_number x) (open_number y) 0 (concluded_open hs d p.0)).0 (max_parts (open_number y) (open_number z) 0 (concluded_open hs e p.1)).1
-  concluded_open hs (by_eqsymm_things {t} {u} d) c = let p = max_parts (open_thing t) (open_thing u) 0 (concluded_open hs d c) in max_from _ _ 0 p.1 p.0
-  concluded_open hs (by_eqsymm_numbers {a} {b} d) c = let p = max_parts (open_number a) (open_number b) 0 (concluded_open hs d c) in max_from _ _ 0 p.1 p.0
+      max-le (max_parts (open_number x) (open_number y) 0 (concluded_open hs d p.0)).0 (max_parts (open_number y) (open_number z) 0 (concluded_open hs e p.1)).1
+  concluded_open hs (by_eqsymm_things {t} {u} d) c = let p = max_parts (open_thing t) (open_thing u) 0 (concluded_open hs d c) in max-le p.1 p.0
+  concluded_open hs (by_eqsymm_numbers {a} {b} d) c = let p = max_parts (open_number a) (open_number b) 0 (concluded_open hs d c) in max-le p.1 p.0
   concluded_open hs (by_eqsub {P} {t} {u} {ψ} d) c =
       let p = and_parts (closed_proof P) (below 1 (formula_tree ψ)) c in
       let q = max_parts (open_thing t) (open_thing u) 0 (concluded_open hs d p.0) in
-      max_from _ _ 0 (put_open 0 0 t ψ (omega arith) q.0 (is_below p.1)) (put_open 0 0 u ψ (omega arith) q.1 (is_below p.1))
+      max-le (put_open 0 0 t ψ (omega arith) q.0 (leb-true _ _ p.1)) (put_open 0 0 u ψ (omega arith) q.1 (leb-true _ _ p.1))
   concluded_open hs (by_and1 {φ} {ψ} d) c = (max_parts (open_formula φ) (open_formula ψ) 0 (concluded_open hs d c)).0
   concluded_open hs (by_and2 {φ} {ψ} d) c = (max_parts (open_formula φ) (open_formula ψ) 0 (concluded_open hs d c)).1
   concluded_open hs (by_orimp d) c = concluded_open hs d c
@@ -96,7 +91,7 @@ module _ (made : ℕ → Option Formula) (known_closed : AllClosed made) where
   concluded_open hs (by_elimnot {φ} d) c = (max_parts (open_formula φ) 0 0 (concluded_open hs d c)).0
   concluded_open hs (by_inst {P} {t} {φ} d) c =
       let p = and_parts (closed (thing_tree t)) (closed_proof P) c in
-      put_open 0 0 t φ (omega arith) (is_below p.0) (le_pred _ _ (concluded_open hs d p.1))
+      put_open 0 0 t φ (omega arith) (leb-true _ _ p.0) (le_pred _ _ (concluded_open hs d p.1))
 
 -- ---- the environment past the open indices does not matter
 

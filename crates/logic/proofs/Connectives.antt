@@ -1,8 +1,9 @@
--- Laws of the connectives on truth values, and of a test at each number up to n.
-use Rattle.std.proofs.Common.{◌≡◌, ℕ, zero, suc, ◌≤◌, Bool, true, false, not, ◌||◌, refl, arith}
+-- Laws of the connectives on truth values, of sameness of whole numbers, and of a test at each number up to n.
+use Rattle.std.proofs.Common.{◌≡◌, ℕ, zero, suc, ◌≤◌, Bool, true, false, not, ◌||◌, ℤ, refl, arith}
 use native.Mathlib.Decide.{ℕ_discrete}
-use mathlib.Core.Bool.{false≢true}
+use mathlib.Core.Bool.{decide, decide_iff, false≢true}
 use Rattle.std.proofs.lemmas.Bool.{and_parts}
+use Rattle.logic.specs.Integers.{int_discrete}
 use Rattle.logic.specs.World.{every}
 
 pub implies_from : (x y : Bool) → (x ≡ true → y ≡ true) → (not x || y) ≡ true
@@ -40,6 +41,14 @@ implies_false false h = refl
 pub not_implies_false : (x : Bool) → (not (not x) || false) ≡ true → x ≡ true
 not_implies_false true h = refl
 not_implies_false false h = h
+
+-- ---- sameness of whole numbers
+
+pub are_same : {m n : ℤ} → decide (int_discrete m n) ≡ true → m ≡ n
+are_same {m} {n} = (decide_iff (int_discrete m n)).0
+
+pub from_same : {m n : ℤ} → m ≡ n → decide (int_discrete m n) ≡ true
+from_same {m} {n} = (decide_iff (int_discrete m n)).1
 
 -- ---- a test at each number up to n
 

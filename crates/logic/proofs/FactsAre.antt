@@ -1,26 +1,22 @@
 -- The function of the facts gives what the facts state, and nothing else.
 use Rattle.std.proofs.Common.{◌≡◌, Bool, true, false, cond, ◌&&◌, ℤ, sym, refl, ap, ◌∙◌, subst, subst₂}
 use Rattle.std.proofs.lemmas.Bool.{and_parts, and_from, cond_both, cond-true, cond-false}
-use Rattle.logic.specs.Syntax.{Number, Formula, lit, add, minus, measure, falsity, same, implies, neg, eq_numbers, leq}
+use Rattle.logic.specs.Syntax.{Number, Formula, lit, add, minus, falsity, same, implies, neg, eq_numbers, leq}
 use Rattle.logic.specs.Arithmetic.{Arithmetic}
 use Rattle.logic.specs.Facts.{Fact, States, sum, atmost, cancel, swap, eqleq, leqtrans, pair}
 use Rattle.logic.specs.Facts.{by_sum, by_atmost, by_above, by_cancel, by_swap, by_eqleq, by_leqtrans, by_pair}
-use Rattle.logic.specs.Facts.{Stated, uncarried, misshapen, unadmitted, formula, of_literal, upper, are_bounds, state}
+use Rattle.logic.specs.Facts.{Stated, misshapen, unadmitted, formula, of_literal, upper, are_bounds, state}
 use Rattle.logic.proofs.RulesAre.{same_true, same_refl}
 
 -- ---- a formula is none of the reasons
 
 abbrev IsFormula : Stated → Type 0
-IsFormula uncarried = ⊥
-IsFormula misshapen = ⊥
-IsFormula unadmitted = ⊥
 IsFormula (formula φ) = Unit {0}
+IsFormula s = ⊥
 
 abbrev the_formula : Stated → Formula
-the_formula uncarried = falsity
-the_formula misshapen = falsity
-the_formula unadmitted = falsity
 the_formula (formula φ) = φ
+the_formula s = falsity
 
 is_formula : (s : Stated) (φ : Formula) → s ≡ formula φ → IsFormula s
 is_formula s φ e = subst IsFormula (sym e) tt
@@ -35,9 +31,7 @@ chosen false x y φ no_else h = absurd (no_else (is_formula y φ h))
 
 literal : (a : Number) (f : ℤ → Stated) (φ : Formula) → of_literal a f ≡ formula φ → (m : ℤ) × (a ≡ lit m) × (f m ≡ formula φ)
 literal (lit m) f φ h = (m, refl, h)
-literal (add a b) f φ h = absurd (is_formula misshapen φ h)
-literal (minus a) f φ h = absurd (is_formula misshapen φ h)
-literal (measure s l) f φ h = absurd (is_formula misshapen φ h)
+literal a f φ h = absurd (is_formula misshapen φ h)
 
 module _ (A : Arithmetic) where
   sum_stated : (a b : Number) (m n : ℤ) (φ : Formula) → a ≡ lit m → b ≡ lit n → cond (A.admits (A.sum m n)) (formula (eq_numbers (add a b) (lit (A.sum m n)))) unadmitted ≡ formula φ → States A (sum a b) φ

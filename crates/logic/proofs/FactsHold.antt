@@ -1,14 +1,12 @@
 -- What a fact states holds in every world over a lawful arithmetic.
 use Rattle.std.proofs.Common.{◌≡◌, ℕ, Bool, true, not, ◌&&◌, List, [], ℤ, pos, sym, refl, ap, ◌∙◌, subst}
-use mathlib.Core.Bool.{decide_iff}
 use Rattle.std.proofs.lemmas.Bool.{and_parts}
-use Rattle.logic.specs.Integers.{int_discrete}
 use Rattle.logic.specs.Syntax.{Number, Formula, lit, add, minus, measure}
 use Rattle.logic.specs.Tree.{number_tree, literals_pass}
 use Rattle.logic.specs.Arithmetic.{Arithmetic, Lawful}
 use Rattle.logic.specs.World.{World, amount, Holds}
 use Rattle.logic.specs.Facts.{Fact, States, admitted, by_sum, by_atmost, by_above, by_cancel, by_swap, by_eqleq, by_leqtrans, by_pair}
-use Rattle.logic.proofs.Connectives.{implies_from}
+use Rattle.logic.proofs.Connectives.{implies_from, are_same, from_same}
 
 module _ {A : Arithmetic} (L : Lawful A) where
   -- the literals of the number term are admitted
@@ -35,18 +33,18 @@ module _ {A : Arithmetic} (L : Lawful A) where
     number ρ (measure s l) ok = W.number_within s _
 
     pub fact_holds : {f : Fact} {φ : Formula} → States A f φ → admitted A φ ≡ true → Holds W φ
-    fact_holds (by_sum admits) ok = (decide_iff (int_discrete _ _)).1 refl
+    fact_holds (by_sum admits) ok = from_same refl
     fact_holds (by_atmost h) ok = h
     fact_holds (by_above h) ok = ap not h
     fact_holds (by_cancel {a}) ok =
         let p = both_pass (add a (minus a)) (lit (pos 0)) ok in
-        (decide_iff (int_discrete _ _)).1 (L.cancels _ (number [] a (both_pass a (minus a) p.0).0))
+        from_same (L.cancels _ (number [] a (both_pass a (minus a) p.0).0))
     fact_holds (by_swap {a} {b}) ok =
         let p = both_pass a b (both_pass (add a b) (add b a) ok).0 in
-        (decide_iff (int_discrete _ _)).1 (L.commutative _ _ (number [] a p.0) (number [] b p.1))
+        from_same (L.commutative _ _ (number [] a p.0) (number [] b p.1))
     fact_holds (by_eqleq {a} {b}) ok =
         let p = both_pass a b (and_parts _ (pass a && pass b) ok).1 in
-        implies_from _ _ (λ h. subst (λ x. A.atmost (amount W [] a) x ≡ true) ((decide_iff (int_discrete _ _)).0 h) (L.reflexive _ (number [] a p.0)))
+        implies_from _ _ (λ h. subst (λ x. A.atmost (amount W [] a) x ≡ true) (are_same h) (L.reflexive _ (number [] a p.0)))
     fact_holds (by_leqtrans {a} {b} {c}) ok =
         let p = and_parts (pass a && pass b) ((pass b && pass c) && (pass a && pass c)) ok in
         let q = and_parts (pass b && pass c) (pass a && pass c) p.1 in

@@ -1,13 +1,23 @@
 -- A proof that concludes something under n hypotheses has none open past them.
-use Rattle.std.proofs.Common.{◌≡◌, ℕ, zero, suc, ◌≤◌, max, List, [], ◌∷◌, length, refl, arith}
+use Rattle.std.proofs.Common.{◌≡◌, ℕ, zero, suc, ◌≤◌, max, List, [], ◌∷◌, length, refl, subst, arith}
 use mathlib.Core.Option.{Option, some, none-ne-some}
+use Rattle.std.proofs.Math.Nat.{max-le}
 use lib.ListN.{get_elem?}
 use Rattle.logic.specs.Syntax.{Thing, Things, Number, Formula, Proof, equal, at_most}
 use Rattle.logic.specs.Tree.{thing_tree, things_tree, number_tree, formula_tree, proof_tree, open_hypotheses}
 use Rattle.logic.specs.Rules.{Concludes}
 use Rattle.logic.specs.Rules.{by_hyp, by_known, by_assume, by_mp, by_absurd, by_nnpp, by_eqrefl_thing, by_eqrefl_number, by_eqtrans_things, by_eqtrans_numbers}
 use Rattle.logic.specs.Rules.{by_eqsymm_things, by_eqsymm_numbers, by_eqsub, by_and1, by_and2, by_orimp, by_negelim, by_addneg, by_intro, by_elimnot, by_inst}
-use Rattle.logic.proofs.Trees.{pred_le, max_from}
+use Rattle.logic.proofs.Trees.{pred_le}
+
+-- ---- what holds of each formula that a number names
+
+abbrev pub Each : (Formula → Type 0) → (ℕ → Option Formula) → Type 0
+Each P made = (k : ℕ) (φ : Formula) → made k ≡ some φ → P φ
+
+pub one_more : (P : Formula → Type 0) (φ : Formula) (H : List Formula) → P φ → Each P (get_elem? H) → Each P (get_elem? (φ ∷ H))
+one_more P φ H h hs zero χ e = let p : φ ≡ χ = cc in subst P p h
+one_more P φ H h hs (suc k) χ e = hs k χ e
 
 -- ---- only proofs have hypotheses
 
@@ -52,22 +62,22 @@ found_within (ψ ∷ H) (suc i) φ e = omega (arith, found_within H i φ e)
 pub hypotheses_within : {made : ℕ → Option Formula} {H : List Formula} {P : Proof} {φ : Formula} → Concludes made H P φ → open_hypotheses (proof_tree P) ≤ length H
 hypotheses_within (by_hyp {H} {i} {φ} e) = found_within H i φ e
 hypotheses_within (by_known e) = none_past _ _ refl
-hypotheses_within (by_assume {φ} d) = pred_le _ _ (max_from _ _ _ (none_past _ _ (formula_hypotheses φ)) (hypotheses_within d))
-hypotheses_within (by_mp d e) = max_from _ _ _ (hypotheses_within d) (hypotheses_within e)
-hypotheses_within (by_absurd {φ} d) = max_from _ _ _ (hypotheses_within d) (none_past _ _ (formula_hypotheses φ))
+hypotheses_within (by_assume {φ} d) = pred_le _ _ (max-le (none_past _ _ (formula_hypotheses φ)) (hypotheses_within d))
+hypotheses_within (by_mp d e) = max-le (hypotheses_within d) (hypotheses_within e)
+hypotheses_within (by_absurd {φ} d) = max-le (hypotheses_within d) (none_past _ _ (formula_hypotheses φ))
 hypotheses_within (by_nnpp d) = hypotheses_within d
 hypotheses_within (by_eqrefl_thing {t}) = none_past _ _ (thing_hypotheses t)
 hypotheses_within (by_eqrefl_number {a}) = none_past _ _ (number_hypotheses a)
-hypotheses_within (by_eqtrans_things d e) = max_from _ _ _ (hypotheses_within d) (hypotheses_within e)
-hypotheses_within (by_eqtrans_numbers d e) = max_from _ _ _ (hypotheses_within d) (hypotheses_within e)
+hypotheses_within (by_eqtrans_things d e) = max-le (hypotheses_within d) (hypotheses_within e)
+hypotheses_within (by_eqtrans_numbers d e) = max-le (hypotheses_within d) (hypotheses_within e)
 hypotheses_within (by_eqsymm_things d) = hypotheses_within d
 hypotheses_within (by_eqsymm_numbers d) = hypotheses_within d
-hypotheses_within (by_eqsub {ψ} d) = max_from _ _ _ (hypotheses_within d) (none_past _ _ (formula_hypotheses ψ))
+hypotheses_within (by_eqsub {ψ} d) = max-le (hypotheses_within d) (none_past _ _ (formula_hypotheses ψ))
 hypotheses_within (by_and1 d) = hypotheses_within d
 hypotheses_within (by_and2 d) = hypotheses_within d
 hypotheses_within (by_orimp d) = hypotheses_within d
-hypotheses_within (by_negelim d e) = max_from _ _ _ (hypotheses_within d) (hypotheses_within e)
+hypotheses_within (by_negelim d e) = max-le (hypotheses_within d) (hypotheses_within e)
 hypotheses_within (by_addneg d) = hypotheses_within d
 hypotheses_within (by_intro d) = hypotheses_within d
 hypotheses_within (by_elimnot d) = hypotheses_within d
-hypotheses_within (by_inst {t} d) = max_from _ _ _ (none_past _ _ (thing_hypotheses t)) (hypotheses_within d)
+hypotheses_within (by_inst {t} d) = max-le (none_past _ _ (thing_hypotheses t)) (hypotheses_within d)

@@ -4,6 +4,7 @@ pub mod Arithmetics
 pub mod Examples
 pub mod Mistakes
 pub mod Trees
+pub mod Keepings
 pub mod RulesHold
 pub mod FactsHold
 pub mod Reread

@@ -6,7 +6,7 @@ use Rattle.logic.specs.Syntax.{Formula, OneSided, TwoSided, Plan, connect, neg, 
 use Rattle.logic.specs.Rules.{when}
 use Rattle.logic.specs.Plans.{Turns, by_id, by_skip, by_skol, by_recand, by_recor, by_recnor, by_recnand, by_recnn}
 use Rattle.logic.specs.Plans.{Walked, misfit, yields, around, around_both, if_fits, takes, inner_scope, rebuilt, rejoined, inner, two_inner, result, turn}
-use Rattle.logic.proofs.RulesAre.{tested, passes, same_true, same_refl}
+use Rattle.logic.proofs.RulesAre.{tested, passes, fits, same_true, same_refl}
 
 -- ---- what a walk yielded, taken apart
 
@@ -53,9 +53,6 @@ taken_back o n h = rw h (eq-eqb n n refl)
 -- a formula of the shape that the head tests for, and what the sub-plan takes
 shaped : {A : Type 0} (χ ξ : Formula) (x y : A) → when (same χ ξ) x ≡ some y → (ξ ≡ χ) × (x ≡ y)
 shaped χ ξ x y h = let t = tested _ _ _ h in (sym (same_true _ _ t.0), t.1)
-
-fits : {A : Type 0} (χ : Formula) (x : A) → when (same χ χ) x ≡ some x
-fits χ x = passes (same χ χ) x (same_refl χ)
 
 module _ (arity : ℕ → Option ℕ) where
   stepped : (h : OneSided) (n : ℕ) (p : Plan) (χ φ ψ : Formula) → inner arity n h χ ≡ some φ → Turns arity (inner_scope h n) p φ ψ → Turns arity n (step h p) χ (rebuilt h ψ)

@@ -1,7 +1,8 @@
 -- A proof concludes something exactly if each sub-proof does, and then no position is named.
 use Rattle.std.proofs.Common.{◌≡◌, ℕ, suc, Bool, true, false, ◌&&◌, List, [], ◌∷◌, ◌++◌, map, sym, refl, ap, ◌∙◌, arith}
-use mathlib.Core.Bool.{false≢true, and-true}
+use mathlib.Core.Bool.{false≢true, and-true, and_assoc}
 use mathlib.Core.Option.{Option, none, some}
+use Rattle.std.proofs.lemmas.List.{map-append}
 use Rattle.logic.specs.Syntax.{Formula, Proof, hyp, known, assume, eqrefl_thing, eqrefl_number, eqsub, inst, from, from_both}
 use Rattle.logic.specs.Rules.{Concludes, ◌>>=◌, conclude}
 use Rattle.logic.specs.Positions.{Sub, subproofs, concluded_by, conclusions, first_none, misfit_at}
@@ -17,17 +18,9 @@ all_some (o ∷ l) = is_some o && all_some l
 
 -- ---- lists
 
-and_assoc : (x y z : Bool) → (x && (y && z)) ≡ ((x && y) && z)
-and_assoc true y z = refl
-and_assoc false y z = refl
-
 all_append : (l m : List (Option Formula)) → all_some (l ++ m) ≡ (all_some l && all_some m)
 all_append [] m = refl
-all_append (o ∷ l) m = ap (λ b. is_some o && b) (all_append l m) ∙ and_assoc (is_some o) (all_some l) (all_some m)
-
-map_append : {A B : Type 0} (f : A → B) (l m : List A) → map f (l ++ m) ≡ map f l ++ map f m
-map_append f [] m = refl
-map_append f (x ∷ l) m = ap (λ r. f x ∷ r) (map_append f l m)
+all_append (o ∷ l) m = ap (λ b. is_some o && b) (all_append l m) ∙ sym (and_assoc (is_some o) (all_some l) (all_some m))
 
 -- ---- the position is 0 exactly if each is some
 
@@ -61,7 +54,7 @@ module _ (made : ℕ → Option Formula) where
   work l = all_some (map (concluded_by made) l)
 
   work_append : (l m : List Sub) → work (l ++ m) ≡ (work l && work m)
-  work_append l m = ap all_some (map_append (concluded_by made) l m) ∙ all_append (map (concluded_by made) l) (map (concluded_by made) m)
+  work_append l m = ap all_some (map-append (concluded_by made) l m) ∙ all_append (map (concluded_by made) l) (map (concluded_by made) m)
 
   after : (l : List Sub) (o : Option Formula) (f : Formula → Option Formula) (s : Sub) → work l ≡ is_some o → concluded_by made s ≡ (o >>= f)
       → work (l ++ (s ∷ [])) ≡ is_some (concluded_by made s)

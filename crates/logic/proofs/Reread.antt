@@ -1,5 +1,6 @@
 -- What a term means depends only on the symbols that stand in it; which symbols stand in what a substitution or a plan yields.
 use Rattle.std.proofs.Common.{◌≡◌, ℕ, zero, suc, ◌≤◌, Bool, true, false, ◌||◌, eqb, List, [], ◌∷◌, ◌++◌, length, sym, refl, ap, ◌∙◌}
+use mathlib.Core.Bool.{or_assoc}
 use mathlib.Core.Option.{Option}
 use Rattle.std.proofs.lemmas.Bool.{or_left, or_right, or_parts, or_from, eq-eqb}
 use Rattle.logic.specs.Syntax.{Thing, Things, Number, Formula, Plan, var, apply, nil, cons, lit, add, minus, measure, falsity, connect, neg, eq_things, relate, atom, forall}
@@ -83,13 +84,9 @@ module _ (s : ℕ) where
 
   -- ---- a plan brings in no symbol but its own
 
-  or_assoc : (x y z : Bool) → (x || (y || z)) ≡ ((x || y) || z)
-  or_assoc true y z = refl
-  or_assoc false y z = refl
-
   pub member_append : (l m : List ℕ) → member s (l ++ m) ≡ member s l || member s m
   member_append [] m = refl
-  member_append (r ∷ l) m = ap (λ b. eqb s r || b) (member_append l m) ∙ or_assoc (eqb s r) (member s l) (member s m)
+  member_append (r ∷ l) m = ap (λ b. eqb s r || b) (member_append l m) ∙ sym (or_assoc (eqb s r) (member s l) (member s m))
 
   pub no_member : (l m : List ℕ) → member s (l ++ m) ≡ false → (member s l ≡ false) × (member s m ≡ false)
   no_member l m h = or_parts (member s l) (member s m) (sym (member_append l m) ∙ h)

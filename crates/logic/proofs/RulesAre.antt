@@ -3,7 +3,7 @@ use Rattle.std.proofs.Common.{◌≡◌, ℕ, Bool, true, false, List, ◌∷◌
 use mathlib.Core.Bool.{decide_iff}
 use mathlib.Core.Option.{Option, none, some, none-ne-some, some-injective}
 use Rattle.logic.specs.Syntax.{Thing, Number, Formula, OnePremise, TwoPremises, Proof, same_thing, same_number, same}
-use Rattle.logic.specs.Syntax.{falsity, connect, neg, eq_things, relate, equal, at_most, atom, forall, eq_numbers}
+use Rattle.logic.specs.Syntax.{eq_things, relate, equal, at_most, eq_numbers}
 use Rattle.logic.specs.Syntax.{hyp, known, assume, eqrefl_thing, eqrefl_number, eqsub, inst, from, from_both}
 use Rattle.logic.specs.Syntax.{nnpp, eqsymm, and1, and2, orimp, addneg, intro, elimnot, mp, eqtrans, negelim}
 use Rattle.logic.specs.Rules.{Concludes, ◌>>=◌, when, Sides, things, numbers, sides, chained, turned_round, replaced, conclude_from, conclude_both, conclude}
@@ -36,20 +36,20 @@ same_true φ ψ = (decide_iff _).0
 pub same_refl : (φ : Formula) → same φ φ ≡ true
 same_refl φ = (decide_iff _).1 refl
 
-same_thing_true : (t u : Thing) → same_thing t u ≡ true → t ≡ u
+pub same_thing_true : (t u : Thing) → same_thing t u ≡ true → t ≡ u
 same_thing_true t u = (decide_iff _).0
 
-same_thing_refl : (t : Thing) → same_thing t t ≡ true
+pub same_thing_refl : (t : Thing) → same_thing t t ≡ true
 same_thing_refl t = (decide_iff _).1 refl
 
-same_number_true : (a b : Number) → same_number a b ≡ true → a ≡ b
+pub same_number_true : (a b : Number) → same_number a b ≡ true → a ≡ b
 same_number_true a b = (decide_iff _).0
 
-same_number_refl : (a : Number) → same_number a a ≡ true
+pub same_number_refl : (a : Number) → same_number a a ≡ true
 same_number_refl a = (decide_iff _).1 refl
 
-fits : (φ ψ : Formula) → when (same φ φ) ψ ≡ some ψ
-fits φ ψ = passes (same φ φ) ψ (same_refl φ)
+pub fits : {A : Type 0} (φ : Formula) (x : A) → when (same φ φ) x ≡ some x
+fits φ x = passes (same φ φ) x (same_refl φ)
 
 -- ---- equations
 
@@ -58,14 +58,10 @@ equation (things t u) = eq_things t u
 equation (numbers a b) = eq_numbers a b
 
 sided : (χ : Formula) (e : Sides) → sides χ ≡ some e → χ ≡ equation e
-sided falsity e h = absurd (none-ne-some e h)
-sided (connect c φ ψ) e h = absurd (none-ne-some e h)
-sided (neg φ) e h = absurd (none-ne-some e h)
 sided (eq_things v w) e h = ap equation (some-injective (things v w) e h)
 sided (relate equal a b) e h = ap equation (some-injective (numbers a b) e h)
 sided (relate at_most a b) e h = absurd (none-ne-some e h)
-sided (atom s l) e h = absurd (none-ne-some e h)
-sided (forall φ) e h = absurd (none-ne-some e h)
+sided χ e h = absurd (none-ne-some e h)
 
 module _ (made : ℕ → Option Formula) (H : List Formula) where
   -- a premise of the shape that the rule tests for

@@ -9,56 +9,32 @@ use Rattle.logic.proofs.RulesAre.{bound}
 
 pub is_thing : (t : Term) (x : Thing) → as_thing t ≡ some x → t ≡ of_thing x
 is_thing (of_thing t) x h = ap of_thing (some-injective t x h)
-is_thing (of_things l) x h = absurd (none-ne-some x h)
-is_thing (of_number a) x h = absurd (none-ne-some x h)
-is_thing (of_formula φ) x h = absurd (none-ne-some x h)
-is_thing (of_plan p) x h = absurd (none-ne-some x h)
-is_thing (of_proof P) x h = absurd (none-ne-some x h)
+is_thing t x h = absurd (none-ne-some x h)
 
 pub is_list : (t : Term) (x : Things) → as_things t ≡ some x → t ≡ of_things x
-is_list (of_thing t) x h = absurd (none-ne-some x h)
 is_list (of_things l) x h = ap of_things (some-injective l x h)
-is_list (of_number a) x h = absurd (none-ne-some x h)
-is_list (of_formula φ) x h = absurd (none-ne-some x h)
-is_list (of_plan p) x h = absurd (none-ne-some x h)
-is_list (of_proof P) x h = absurd (none-ne-some x h)
+is_list t x h = absurd (none-ne-some x h)
 
 pub is_number : (t : Term) (x : Number) → as_number t ≡ some x → t ≡ of_number x
-is_number (of_thing t) x h = absurd (none-ne-some x h)
-is_number (of_things l) x h = absurd (none-ne-some x h)
 is_number (of_number a) x h = ap of_number (some-injective a x h)
-is_number (of_formula φ) x h = absurd (none-ne-some x h)
-is_number (of_plan p) x h = absurd (none-ne-some x h)
-is_number (of_proof P) x h = absurd (none-ne-some x h)
+is_number t x h = absurd (none-ne-some x h)
 
 pub is_formula : (t : Term) (x : Formula) → as_formula t ≡ some x → t ≡ of_formula x
-is_formula (of_thing t) x h = absurd (none-ne-some x h)
-is_formula (of_things l) x h = absurd (none-ne-some x h)
-is_formula (of_number a) x h = absurd (none-ne-some x h)
 is_formula (of_formula φ) x h = ap of_formula (some-injective φ x h)
-is_formula (of_plan p) x h = absurd (none-ne-some x h)
-is_formula (of_proof P) x h = absurd (none-ne-some x h)
+is_formula t x h = absurd (none-ne-some x h)
 
 pub is_plan : (t : Term) (x : Plan) → as_plan t ≡ some x → t ≡ of_plan x
-is_plan (of_thing t) x h = absurd (none-ne-some x h)
-is_plan (of_things l) x h = absurd (none-ne-some x h)
-is_plan (of_number a) x h = absurd (none-ne-some x h)
-is_plan (of_formula φ) x h = absurd (none-ne-some x h)
 is_plan (of_plan p) x h = ap of_plan (some-injective p x h)
-is_plan (of_proof P) x h = absurd (none-ne-some x h)
+is_plan t x h = absurd (none-ne-some x h)
 
 pub is_proof : (t : Term) (x : Proof) → as_proof t ≡ some x → t ≡ of_proof x
-is_proof (of_thing t) x h = absurd (none-ne-some x h)
-is_proof (of_things l) x h = absurd (none-ne-some x h)
-is_proof (of_number a) x h = absurd (none-ne-some x h)
-is_proof (of_formula φ) x h = absurd (none-ne-some x h)
-is_proof (of_plan p) x h = absurd (none-ne-some x h)
 is_proof (of_proof P) x h = ap of_proof (some-injective P x h)
+is_proof t x h = absurd (none-ne-some x h)
 
 -- ---- the tree of what a head makes
 
 -- a class of terms: what its test shows
-abbrev Shows : {X : Type 0} → (Term → Option X) → (X → Term) → Type 0
+abbrev pub Shows : {X : Type 0} → (Term → Option X) → (X → Term) → Type 0
 Shows {X} class of = (t : Term) (x : X) → class t ≡ some x → t ≡ of x
 
 one_back : {X : Type 0} (class : Term → Option X) (of : X → Term) → Shows class of → (f : X → Term) (head : Tree → Tree) → ((x : X) → term_tree (f x) ≡ head (term_tree (of x)))
@@ -86,12 +62,7 @@ either_back o p v u f g h = elim (either o p v h) [ inl e ↦ f e | inr e ↦ g 
 
 leaf_back : (x : Leaf) → term_tree (leaf_term x) ≡ leaf x
 leaf_back (Leaf.var i) = refl
-leaf_back Leaf.nil = refl
-leaf_back (Leaf.lit n) = refl
-leaf_back Leaf.falsity = refl
-leaf_back Leaf.id = refl
-leaf_back (Leaf.hyp i) = refl
-leaf_back (Leaf.known k) = refl
+leaf_back x = refl
 
 applied_back : (k : Kind) (s : ℕ) (l : Things) → term_tree (applied k s l) ≡ unary (Unary.application k s) (things_tree l)
 applied_back Kind.thing s l = refl

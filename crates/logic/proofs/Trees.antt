@@ -91,12 +91,7 @@ mutual
 
 raise_leaf_twice : (m n : ℕ) (x : Leaf) → raise_leaf m (raise_leaf n x) ≡ raise_leaf (n + m) x
 raise_leaf_twice m n (Leaf.var i) = ap Leaf.var (omega arith)
-raise_leaf_twice m n Leaf.nil = refl
-raise_leaf_twice m n (Leaf.lit k) = refl
-raise_leaf_twice m n Leaf.falsity = refl
-raise_leaf_twice m n Leaf.id = refl
-raise_leaf_twice m n (Leaf.hyp i) = refl
-raise_leaf_twice m n (Leaf.known k) = refl
+raise_leaf_twice m n x = refl
 
 pub raise_twice : (m n : ℕ) (t : Tree) → raise_tree m (raise_tree n t) ≡ raise_tree (n + m) t
 raise_twice m n (leaf x) = ap leaf (raise_leaf_twice m n x)
@@ -105,12 +100,7 @@ raise_twice m n (binary h t u) = cc (raise_twice m n t, raise_twice m n u)
 
 raise_leaf_by_none : (x : Leaf) → raise_leaf 0 x ≡ x
 raise_leaf_by_none (Leaf.var i) = ap Leaf.var (omega arith)
-raise_leaf_by_none Leaf.nil = refl
-raise_leaf_by_none (Leaf.lit k) = refl
-raise_leaf_by_none Leaf.falsity = refl
-raise_leaf_by_none Leaf.id = refl
-raise_leaf_by_none (Leaf.hyp i) = refl
-raise_leaf_by_none (Leaf.known k) = refl
+raise_leaf_by_none x = refl
 
 pub raise_by_none : (t : Tree) → raise_tree 0 t ≡ t
 raise_by_none (leaf x) = ap leaf (raise_leaf_by_none x)
@@ -226,19 +216,11 @@ put_tree_foralls k t (leaf x) e = put_index_foralls k t x (variable x) e
 put_tree_foralls k t (unary h u) e = ap (λ m. cond (binds h) (suc m) m) (put_tree_foralls (under h k) (raised_under h t) u (raised_foralls (binds h) t ∙ e))
 put_tree_foralls k t (binary h u v) e = cc (put_tree_foralls k t u e, put_tree_foralls k t v e)
 
-pub put_formula_foralls : (k : ℕ) (t : Thing) (φ : Formula) → foralls (formula_tree (put k t φ)) ≡ foralls (formula_tree φ)
-put_formula_foralls k t φ = ap foralls (put_formula_tree k t φ) ∙ put_tree_foralls k (thing_tree t) (formula_tree φ) (thing_foralls t)
-
 -- ---- open indices
 
 raise_leaf_open : (n : ℕ) (x : Leaf) → above (variable (raise_leaf n x)) ≤ above (variable x) + n
 raise_leaf_open n (Leaf.var i) = omega arith
-raise_leaf_open n Leaf.nil = omega arith
-raise_leaf_open n (Leaf.lit m) = omega arith
-raise_leaf_open n Leaf.falsity = omega arith
-raise_leaf_open n Leaf.id = omega arith
-raise_leaf_open n (Leaf.hyp i) = omega arith
-raise_leaf_open n (Leaf.known k) = omega arith
+raise_leaf_open n x = omega arith
 
 -- bounds of open indices, outside and under a head
 pub pred_le : (m n : ℕ) → m ≤ suc n → pred m ≤ n
@@ -249,9 +231,6 @@ le_pred m n h = omega arith
 
 pub max_parts : (k m n : ℕ) → max k m ≤ n → (k ≤ n) × (m ≤ n)
 max_parts k m n h = (omega arith, omega arith)
-
-pub max_from : (k m n : ℕ) → k ≤ n → m ≤ n → max k m ≤ n
-max_from k m n h j = omega arith
 
 pred_plus : (m k n : ℕ) → m ≤ k + n → pred m ≤ pred k + n
 pred_plus m k n h = omega arith
@@ -332,12 +311,7 @@ module _ (k : Kind) (s : ℕ) where
 module _ (test : ℤ → Bool) where
   raise_leaf_literals : (n : ℕ) (x : Leaf) → literal_passes test (raise_leaf n x) ≡ literal_passes test x
   raise_leaf_literals n (Leaf.var i) = refl
-  raise_leaf_literals n Leaf.nil = refl
-  raise_leaf_literals n (Leaf.lit m) = refl
-  raise_leaf_literals n Leaf.falsity = refl
-  raise_leaf_literals n Leaf.id = refl
-  raise_leaf_literals n (Leaf.hyp i) = refl
-  raise_leaf_literals n (Leaf.known k) = refl
+  raise_leaf_literals n x = refl
 
   raise_literals : (n : ℕ) (t : Tree) → literals_pass test (raise_tree n t) ≡ literals_pass test t
   raise_literals n (leaf x) = raise_leaf_literals n x

@@ -2,6 +2,7 @@ pub mod Integers
 pub mod Syntax
 pub mod Substitution
 pub mod Tree
+pub mod Keeping
 pub mod Arithmetic
 pub mod Arithmetics
 pub mod World

@@ -8,102 +8,86 @@ ghost use Rattle.logic.specs.Shown.{shown_examples};
 ghost use Rattle.logic.specs.Theorems.{SubstitutionCommutesWithTruth, ConclusionsHold, FactsHold, PlansHoldAfterRereading, RefutedHoldsNowhere, FunctionsAreTheRules, ProofsFitWhereEachPartFits, ClosednessIsKept, ArithmeticsAreLawful, TreesStandForTerms};
 
 // φ[t] is true where φ is true of the value of t.
-pub fn substitution_commutes_with_truth() -> u8
+#[tactic(auto, using(crate::proofs::Theorems::that_substitution_commutes_with_truth))]
+pub fn substitution_commutes_with_truth()
     ensures { SubstitutionCommutesWithTruth }
-{
-    0
-}
+{}
 
 // What a proof concludes holds in each world where its hypotheses and the known formulas hold.
-pub fn conclusions_hold() -> u8
+#[tactic(auto, using(crate::proofs::Theorems::that_conclusions_hold))]
+pub fn conclusions_hold()
     ensures { ConclusionsHold }
-{
-    0
-}
+{}
 
 // What a fact states holds in each world over a lawful arithmetic.
-pub fn facts_hold() -> u8
+#[tactic(auto, using(crate::proofs::Theorems::that_facts_hold))]
+pub fn facts_hold()
     ensures { FactsHold }
-{
-    0
-}
+{}
 
 // Where a formula holds, what a plan with fresh symbols turns it into holds after a re-reading of just those symbols.
-pub fn plans_hold_after_rereading() -> u8
+pub fn plans_hold_after_rereading()
     ensures { PlansHoldAfterRereading }
-{
-    0
-}
+{}
 
 // What has a refutation holds in no finite world.
-pub fn refuted_holds_nowhere() -> u8
+pub fn refuted_holds_nowhere()
     ensures { RefutedHoldsNowhere }
-{
-    0
-}
+{}
 
 // The functions for proofs, plans and facts compute what the rules relate.
-pub fn functions_are_the_rules() -> u8
+#[tactic(auto, using(crate::proofs::Theorems::that_functions_are_the_rules))]
+pub fn functions_are_the_rules()
     ensures { FunctionsAreTheRules }
-{
-    0
-}
+{}
 
 // A proof concludes something exactly if each of its sub-proofs does.
-pub fn proofs_fit_where_each_part_fits() -> u8
+#[tactic(auto, using(crate::proofs::Theorems::that_proofs_fit_where_each_part_fits))]
+pub fn proofs_fit_where_each_part_fits()
     ensures { ProofsFitWhereEachPartFits }
-{
-    0
-}
+{}
 
 // Closed proofs and plans keep formulas closed, and a closed formula needs no environment.
-pub fn closedness_is_kept() -> u8
+#[tactic(auto, using(crate::proofs::Theorems::that_closedness_is_kept))]
+pub fn closedness_is_kept()
     ensures { ClosednessIsKept }
-{
-    0
-}
+{}
 
 // Whole numbers and counts meet the laws of an arithmetic.
-pub fn arithmetics_are_lawful() -> u8
+#[tactic(auto, using(crate::proofs::Theorems::that_arithmetics_are_lawful))]
+pub fn arithmetics_are_lawful()
     ensures { ArithmeticsAreLawful }
-{
-    0
-}
+{}
 
 // A term is determined by its tree, and substitution is the same on both.
-pub fn trees_stand_for_terms() -> u8
+#[tactic(auto, using(crate::proofs::Theorems::that_trees_stand_for_terms))]
+pub fn trees_stand_for_terms()
     ensures { TreesStandForTerms }
-{
-    0
-}
+{}
 
 // The worked examples come out as they are written.
-pub fn examples_come_out() -> u8
+#[tactic(auto, using(crate::proofs::Examples::that_examples_come_out))]
+pub fn examples_come_out()
     ensures { ExamplesComeOut }
-{
-    0
-}
+{}
 
 // Adding bounds over counts is wrong.
-pub fn bounds_over_counts_do_not_add() -> u8
+#[tactic(auto, using(crate::proofs::Mistakes::that_bounds_over_counts_do_not_add))]
+pub fn bounds_over_counts_do_not_add()
     ensures { BoundsOverCountsDoNotAdd }
-{
-    0
-}
+{}
 
 // Not raising the inserted thing under an inner binder is wrong.
-pub fn unraised_substitution_is_wrong() -> u8
+#[tactic(auto, using(crate::proofs::Mistakes::that_unraised_substitution_is_wrong))]
+pub fn unraised_substitution_is_wrong()
     ensures { UnraisedSubstitutionIsWrong }
-{
-    0
-}
+{}
 
 // Counting a shared Skolem symbol once is wrong.
-pub fn shared_skolem_symbol_is_wrong() -> u8
+#[tactic(auto, using(crate::proofs::Mistakes::that_shared_Skolem_symbol_is_wrong))]
+pub fn shared_skolem_symbol_is_wrong()
     ensures { SharedSkolemSymbolIsWrong }
-{
-    0
-}
+{}
 
 // The worked examples as text, a line for each: what is asked, and what the rules answer.
 pub fn worked_examples() -> &'static str

@@ -1,6 +1,6 @@
 -- What an accepted command shows: the tests that it passed, and the state that it leads to.
 use Rattle.command.specs.declared.command.Command.{Command}
-use Rattle.std.proofs.Common.{◌≡◌, ℕ, true, ◌&&◌, ltb, leb, List, [], length, sym, refl, ap, ◌∙◌}
+use Rattle.std.proofs.Common.{◌≡◌, ℕ, true, ◌&&◌, ltb, leb, List, [], ◌∷◌, length, sym, refl, ap, ◌∙◌}
 use mathlib.Core.Option.{some}
 use Rattle.logic.specs.Syntax.{Formula, Plan, Proof, falsity, same}
 use Rattle.logic.specs.Tree.{Kind, Tree, formula_tree, parts}
@@ -12,12 +12,13 @@ use Rattle.logic.specs.Plans.{Walked, misfit, yields, walk, result, turn}
 use Rattle.logic.specs.Positions.{conclusions}
 use Rattle.logic.specs.Closed.{closed}
 use Rattle.logic.proofs.RulesAre.{same_true}
-use Rattle.model.specs.Refusal.{unknown, untimely, unnamed, miscounted, unclosed, oversized, crowded, unfounded, unfit, stale, different, unadmitted, uncarried, unrefuted, done, require, need}
+use Rattle.model.specs.Refusal.{unknown, untimely, unnamed, miscounted, unclosed, oversized, crowded, unfounded, unfit, stale, different, unadmitted, uncarried, unrefuted, Outcome, done, refused, ◌>>=◌, require, need}
 use Rattle.model.specs.Limits.{Limits, Room, within}
-use Rattle.model.specs.State.{term, fact, nothing, with_result, with_symbol, State, state, known_at, formula_at, plan_at, proof_at, thing_arity, keep, keep_each}
+use Rattle.model.specs.State.{term, fact, nothing, with_result, with_symbol, State, state, known_at, formula_at, plan_at, proof_at, thing_arity}
+use Rattle.logic.specs.Keeping.{keep, keep_each}
 use Rattle.model.specs.Commands.{Maker, FactHead, Action, action_of, made, named_fact}
 use Rattle.model.specs.Tests.{full, literal_admitted, closed_within, closed_fact, new_symbols}
-use Rattle.model.specs.Session.{stage_of, allowed, accept, stated, Concluded, holds_terms, holds_command, no_open_hypothesis, parts_of_each, each_within, begin, settle, concluded, do_symbol, do_make, do_fact, do_query, do_initial, do_let, do_same, do_shows, do_final, act, step}
+use Rattle.model.specs.Session.{stage_of, allowed, accept, stated, Concluded, holds_terms, holds_command, no_open_hypothesis, parts_of_each, each_within, begin, settle, concluded, do_symbol, do_make, do_fact, do_query, do_initial, do_let, do_same, do_shows, do_final, act, step, kept, after}
 use Rattle.model.specs.Theorems.{before_misfit}
 use Rattle.model.proofs.Outcomes.{passed, needed, required, done_inj, refused≢done}
 use Rattle.model.proofs.Settling.{settled}
@@ -99,16 +100,22 @@ module _ (A : Arithmetic) (L : Limits) (R : Room) (S S' : State) (c : Command) w
       let e = done_inj _ x φ.2 in
       (needed unfounded _ _ φ.1 ∙ ap (λ (y : Concluded). some y.formula) e, sym (ap (λ (y : Concluded). y.terms) e) ∙ (settled L R at S.terms us.0 (conclusions (known_at S.names) [] P) us.1).1)
 
+  -- the tests of a command that goes by one proof, and what follows what that concluded
+  one_concluded : (P : Proof) (f : Concluded → Outcome State) → (require unclosed (no_open_hypothesis P) >>= λ _. concluded L R S.names 1 S.terms P >>= λ x. require crowded (holds_command L R S) >>= λ _. f x) ≡ done S'
+      → (x : Concluded) × (concluded L R S.names 1 S.terms P ≡ done x) × (f x ≡ done S')
+  one_concluded P f e =
+      let b6 = passed (require unclosed (no_open_hypothesis P)) _ S' e in
+      let x = passed (concluded L R S.names 1 S.terms P) _ S' b6.2 in
+      (x.0, x.1, (passed (require crowded (holds_command L R S)) _ S' x.2).2)
+
   pub let_accepted : do_let A L R S c ≡ done S'
       → (P : Proof) × (φ : Formula) × (proof_at S.names c.a ≡ some P) × (conclude (known_at S.names) [] P ≡ some φ)
       × (S' ≡ accept S (keep_each S.terms (parts_of_each (before_misfit (conclusions (known_at S.names) [] P)))) (fact φ))
   let_accepted e =
       let P = passed (need unnamed (proof_at S.names c.a)) _ S' e in
-      let b6 = passed (require unclosed (no_open_hypothesis P.0)) _ S' P.2 in
-      let x = passed (concluded L R S.names 1 S.terms P.0) _ S' b6.2 in
-      let b8 = passed (require crowded (holds_command L R S)) _ S' x.2 in
+      let x = one_concluded P.0 _ P.2 in
       let is = conclusion_is 1 P.0 x.0 x.1 in
-      (P.0, x.0.formula, needed unnamed _ _ P.1, is.0, sym (done_inj _ S' b8.2) ∙ ap (λ ts. accept S ts (fact x.0.formula)) is.1)
+      (P.0, x.0.formula, needed unnamed _ _ P.1, is.0, sym (done_inj _ S' x.2) ∙ ap (λ ts. accept S ts (fact x.0.formula)) is.1)
 
   pub same_accepted : do_same A L R S c ≡ done S' → S' ≡ accept S S.terms nothing
   same_accepted e =
@@ -125,18 +132,24 @@ module _ (A : Arithmetic) (L : Limits) (R : Room) (S S' : State) (c : Command) w
   shows_accepted e =
       let P = passed (need unnamed (proof_at S.names c.a)) _ S' e in
       let φ = passed (need unnamed (formula_at S.names c.b)) _ S' P.2 in
-      let b6 = passed (require unclosed (no_open_hypothesis P.0)) _ S' φ.2 in
-      let x = passed (concluded L R S.names 1 S.terms P.0) _ S' b6.2 in
-      let b8 = passed (require crowded (holds_command L R S)) _ S' x.2 in
-      let b12 = passed (require different (same x.0.formula φ.0)) _ S' b8.2 in
+      let x = one_concluded P.0 _ φ.2 in
+      let b12 = passed (require different (same x.0.formula φ.0)) _ S' x.2 in
       sym (done_inj _ S' b12.2)
 
   pub final_accepted : do_final A L R S c ≡ done S'
       → (P : Proof) × (conclude (known_at S.names) [] P ≡ some falsity) × (S' ≡ state (with_result S.names nothing) S.terms S.query S.start true)
   final_accepted e =
       let P = passed (need unnamed (proof_at S.names c.a)) _ S' e in
-      let b6 = passed (require unclosed (no_open_hypothesis P.0)) _ S' P.2 in
-      let x = passed (concluded L R S.names 1 S.terms P.0) _ S' b6.2 in
-      let b8 = passed (require crowded (holds_command L R S)) _ S' x.2 in
-      let b15 = passed (require unrefuted (same x.0.formula falsity)) _ S' b8.2 in
+      let x = one_concluded P.0 _ P.2 in
+      let b15 = passed (require unrefuted (same x.0.formula falsity)) _ S' x.2 in
       (P.0, (conclusion_is 1 P.0 x.0 x.1).0 ∙ ap some (same_true _ _ (required unrefuted 0 _ _ b15.1)), sym (done_inj _ S' b15.2))
+
+-- what accepted commands keep holds after any commands
+module _ (A : Arithmetic) (L : Limits) (R : Room) (P : State → Type 0) (keeps : (S S' : State) (c : Command) → P S → step A L R S c ≡ done S' → P S') where
+  holds_kept : (S : State) (o : Outcome State) → P S → ((S' : State) → o ≡ done S' → P S') → P (kept S o)
+  holds_kept S (done S') p h = h S' refl
+  holds_kept S (refused r at) p h = p
+
+  pub holds_after : (cs : List Command) (S : State) → P S → P (after A L R S cs)
+  holds_after [] S p = p
+  holds_after (c ∷ cs) S p = holds_after cs (kept S (step A L R S c)) (holds_kept S (step A L R S c) p (λ S'. keeps S S' c p))

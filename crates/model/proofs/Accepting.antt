@@ -1,8 +1,7 @@
 -- A refutation written out that fits is accepted.
 use Rattle.command.specs.declared.command.Command.{Command}
-use Rattle.command.specs.declared.command.Content.TheVariants.{Command as command}
 use Rattle.command.specs.declared.command.Item.{Item}
-use Rattle.std.proofs.Common.{◌≡◌, ℕ, suc, ◌+◌, ◌≤◌, true, false, not, ◌&&◌, eqb, ltb, leb, List, [], ◌∷◌, ◌++◌, length, sym, refl, ap, ◌∙◌, subst, le_trans, le_refl, arith, length-append}
+use Rattle.std.proofs.Common.{◌≡◌, ℕ, suc, ◌+◌, ◌≤◌, true, false, not, ◌&&◌, eqb, ltb, leb, List, [], ◌∷◌, ◌++◌, length, Some, sym, refl, ap, ◌∙◌, subst, le_trans, le_refl, arith, length-append}
 use mathlib.Core.Option.{Option, none, some, none-ne-some, some-injective}
 use Rattle.std.proofs.lemmas.Bool.{and_from, le-leb, lt-ltb, eq-eqb, or_left, or_right}
 use Rattle.logic.specs.Syntax.{Formula, Plan, Proof, falsity, same}
@@ -19,7 +18,8 @@ use Rattle.logic.proofs.PlansAre.{turn_gives}
 use Rattle.logic.proofs.FactsAre.{state_gives}
 use Rattle.model.specs.Refusal.{unnamed, miscounted, unclosed, oversized, crowded, unfounded, stale, unadmitted, unrefuted, done, require, need}
 use Rattle.model.specs.Limits.{Limits, Room, within}
-use Rattle.model.specs.State.{Symbol, symbol, term, fact, nothing, Names, no_names, with_result, with_symbol, Start, State, state, fresh, known_at, formula_at, plan_at, proof_at, thing_arity, keep, keep_each}
+use Rattle.model.specs.State.{Symbol, symbol, term, fact, nothing, Names, no_names, with_result, with_symbol, Start, State, state, fresh, known_at, formula_at, plan_at, proof_at, thing_arity}
+use Rattle.logic.specs.Keeping.{keep, keep_each}
 use Rattle.model.specs.Commands.{Maker, FactHead, a_symbol, a_term, a_deduction, a_fact, a_query, an_initial, a_let, a_final, action_of, made, named_fact}
 use Rattle.model.specs.Tests.{full, literal_admitted, closed_within, closed_fact, appears, none_appears, new_symbols}
 use Rattle.model.specs.Session.{Stage, asking, proving, begun, stage_from, stage_of, allowed, stated, holds_terms, holds_command, no_open_hypothesis, parts_of_each, each_within}
@@ -29,7 +29,7 @@ use Rattle.model.specs.Written as Written
 use Rattle.model.specs.Written.{Writes, writes_symbol, writes_term, writes_deduction, writes_fact, writes_let, Line, items, last_item, named, named_each, Makes, Rightly, LinesWritten, Asking, EachAsking, Script, query_file, proof_file, at_query, asked, at_initial, at_final}
 use Rattle.model.specs.Written.{WrittenOut, met_by, met, conclusions_of, terms_of, terms_of_each, Small, EachSmall, Fits, RefutationsAreAccepted}
 use Rattle.model.proofs.Outcomes.{need_some, passes, then}
-use Rattle.model.proofs.Keeping.{each_kept_longer, keep_each_append, part_fits}
+use Rattle.logic.proofs.Keepings.{length_keep_each, keep_each_append, part_fits}
 use Rattle.model.proofs.Settling.{each_concludes, settles}
 use Rattle.model.proofs.Exactness.{step_acts}
 
@@ -175,7 +175,7 @@ module _ (A : Arithmetic) (L : Limits) (R : Room) where
   -- ---- reading on
 
   read_on : (file : ℕ) (S S' : State) (next line : ℕ) (c : Command) (more : List Item) → step A L R S c ≡ done S' → S'.closed ≡ false
-      → read A L R file S next (record { line = line; content = command c } ∷ more) ≡ read A L R file S' (suc line) more
+      → read A L R file S next (record { line = line; content = Some c } ∷ more) ≡ read A L R file S' (suc line) more
   read_on file S S' next line c more h still =
       ap (read_answer file S line (λ X. read A L R file X (suc line) more)) h
       ∙ ap (unless_closed file line (λ X. read A L R file X (suc line) more) S') still
@@ -282,16 +282,16 @@ module _ (A : Arithmetic) (L : Limits) (R : Room) (w : Script) (written : Writte
       fits.terms_fit
 
   room4 : length terms4 ≤ R.terms
-  room4 = le_trans (each_kept_longer terms4 (parts_of_each (conclusions_of (at_final w) w.proof))) room5
+  room4 = le_trans (length_keep_each terms4 (parts_of_each (conclusions_of (at_final w) w.proof))) room5
 
   room3 : length terms3 ≤ R.terms
-  room3 = le_trans (each_kept_longer terms3 (terms_of_each (Written.begun w) w.proof_lines)) room4
+  room3 = le_trans (length_keep_each terms3 (terms_of_each (Written.begun w) w.proof_lines)) room4
 
   room2 : length terms2 ≤ R.terms
-  room2 = le_trans (each_kept_longer terms2 (parts_of_each (met w))) room3
+  room2 = le_trans (length_keep_each terms2 (parts_of_each (met w))) room3
 
   room1 : length terms1 ≤ R.terms
-  room1 = le_trans (each_kept_longer terms1 (terms_of_each (asked w) w.plan_lines)) room2
+  room1 = le_trans (length_keep_each terms1 (terms_of_each (asked w) w.plan_lines)) room2
 
   -- numbers of symbols and of results
 

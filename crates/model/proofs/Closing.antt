@@ -1,22 +1,21 @@
 -- What a fact of closed operands states is closed.
 use Rattle.std.proofs.Common.{◌≡◌, ℕ, max, true, leb, List, [], ◌∷◌, refl}
+use Rattle.std.proofs.Math.Nat.{max-le}
 use Rattle.std.proofs.lemmas.Bool.{and_parts, leb-true, le-leb}
-use Rattle.logic.specs.Syntax.{Number, Formula, add, minus, lit, leq}
-use Rattle.logic.specs.Tree.{Tree, number_tree, formula_tree, open_indices}
+use Rattle.logic.specs.Syntax.{Formula, add, minus, lit, leq}
+use Rattle.logic.specs.Tree.{Tree, number_tree, formula_tree}
 use Rattle.logic.specs.Arithmetic.{Arithmetic}
 use Rattle.logic.specs.Facts.{Fact, States, by_sum, by_atmost, by_above, by_cancel, by_swap, by_eqleq, by_leqtrans, by_pair}
 use Rattle.logic.specs.Closed.{closed}
-use Rattle.logic.proofs.Trees.{max_parts, max_from}
+use Rattle.logic.proofs.Trees.{max_parts}
+use Rattle.logic.proofs.ClosedKept.{open_number}
 use Rattle.model.specs.Tests.{each, closed_fact}
 
 both_closed : (m n : ℕ) → leb m 0 ≡ true → leb n 0 ≡ true → leb (max m n) 0 ≡ true
-both_closed m n h k = le-leb _ _ (max_from m n 0 (leb-true m 0 h) (leb-true n 0 k))
+both_closed m n h k = le-leb _ _ (max-le (leb-true m 0 h) (leb-true n 0 k))
 
 sides_closed : (m n : ℕ) → leb (max m n) 0 ≡ true → (leb m 0 ≡ true) × (leb n 0 ≡ true)
 sides_closed m n h = let p = max_parts m n 0 (leb-true _ 0 h) in (le-leb m 0 p.0, le-leb n 0 p.1)
-
-abbrev open_number : Number → ℕ
-open_number a = open_indices (number_tree a)
 
 one_closed : (t : Tree) (l : List Tree) → each closed (t ∷ l) ≡ true → (closed t ≡ true) × (each closed l ≡ true)
 one_closed t l h = and_parts (closed t) (each closed l) h

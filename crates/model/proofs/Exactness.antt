@@ -1,7 +1,7 @@
 -- `let` and `initial` make known what the rules give, and are refused for their rule exactly where the rules give nothing.
 use Rattle.command.specs.declared.command.Command.{Command}
-use Rattle.std.proofs.Common.{◌≡◌, ℕ, ◌≤◌, Bool, true, false, ◌&&◌, List, [], length, sym, refl, ap, ◌∙◌, subst, inl, inr, arith}
-use mathlib.Core.Option.{Option, some, none-ne-some, some-injective}
+use Rattle.std.proofs.Common.{◌≡◌, ℕ, ◌≤◌, true, false, ◌&&◌, List, [], length, sym, refl, ap, ◌∙◌, subst, inl, inr, arith}
+use mathlib.Core.Option.{some, none-ne-some, some-injective}
 use Rattle.std.proofs.lemmas.Bool.{cases_Bool, eq-eqb, both_ways}
 use Rattle.logic.specs.Syntax.{Formula, Plan, Proof}
 use Rattle.logic.specs.Tree.{Tree, proof_tree, open_hypotheses}
@@ -12,14 +12,15 @@ use Rattle.logic.specs.Positions.{conclusions, misfit_at}
 use Rattle.logic.proofs.RulesAre.{concluded as concludes, conclude_gives}
 use Rattle.logic.proofs.PlansAre.{turned, turn_gives}
 use Rattle.logic.proofs.PositionsRight.{all_some}
-use Rattle.model.specs.Refusal.{Refusal, unknown, untimely, unnamed, unclosed, oversized, crowded, unfounded, unfit, stale, Outcome, done, refused, ◌>>=◌, ◌>>◌, require, need}
+use Rattle.model.specs.Refusal.{Refusal, number, unknown, untimely, unnamed, unclosed, oversized, crowded, unfounded, unfit, stale, Outcome, done, refused, ◌>>=◌, ◌>>◌, require, need}
 use Rattle.model.specs.Limits.{Limits, Room}
-use Rattle.model.specs.State.{fact, Names, State, known_at, plan_at, proof_at, thing_arity, the_fact, keep_each, next_number}
+use Rattle.model.specs.State.{fact, Names, State, known_at, plan_at, proof_at, thing_arity, the_fact, next_number}
+use Rattle.logic.specs.Keeping.{keep_each}
 use Rattle.model.specs.Commands.{Action, an_initial, a_let, action_of}
 use Rattle.model.specs.Tests.{new_symbols}
 use Rattle.model.specs.Session.{stage_of, allowed, accept, Concluded, holds_terms, holds_command, no_open_hypothesis, parts_of_each, each_within, begin, settle, concluded, do_initial, do_let, act, step}
 use Rattle.model.specs.Theorems.{before_misfit, LetIsExact, InitialIsExact, LetAndInitialAreExact}
-use Rattle.model.proofs.Outcomes.{needed, refused≢done, refused_inj, stopped_or_passed, past, apart, need_refused, require_refused, need_some, passes, then}
+use Rattle.model.proofs.Outcomes.{needed, refused≢done, refused_inj, stopped_or_passed, past_need, past_test, need_some, passes, then}
 use Rattle.model.proofs.Names.{newest}
 use Rattle.model.proofs.Accepted.{step_accepted, let_accepted, initial_accepted}
 use Rattle.model.proofs.Settling.{each_concludes, concludes_something, settles_not, settled, settle_refused}
@@ -30,14 +31,6 @@ with_formula N P us φ = done (record { terms = us; formula = φ })
 
 abbrev after_settling : Names → Proof → List Tree → Outcome Concluded
 after_settling N P us = need unfounded (conclude (known_at N) [] P) >>= with_formula N P us
-
--- ---- tests that refuse otherwise
-
-need_not : {X : Type 0} (n r : Refusal) (at : ℕ) (o : Option X) → (n ≡ r → ⊥) → need n o ≡ refused r at → ⊥
-need_not n r at o differs e = differs (need_refused n r at o e).1
-
-require_not : (n r : Refusal) (at : ℕ) (b : Bool) → (n ≡ r → ⊥) → require n b ≡ refused r at → ⊥
-require_not n r at b differs e = differs (require_refused n r 0 at b e).1
 
 module _ (A : Arithmetic) (L : Limits) (R : Room) where
   pub step_acts : (S : State) (c : Command) (h : Action) → action_of c.code ≡ some h → allowed h (stage_of S) ≡ true → step A L R S c ≡ act A L R h S c
@@ -50,10 +43,10 @@ module _ (A : Arithmetic) (L : Limits) (R : Room) where
       let (g, found, stage, acts) = step_accepted A L R S S' c e in
       subst (λ x. act A L R x S c ≡ done S') (some-injective _ _ (sym found ∙ head)) acts
 
-  refused_acted : (S : State) (c : Command) (h : Action) (r : Refusal) (at : ℕ) → (unknown ≡ r → ⊥) → (untimely ≡ r → ⊥) → action_of c.code ≡ some h → step A L R S c ≡ refused r at → act A L R h S c ≡ refused r at
+  refused_acted : (S : State) (c : Command) (h : Action) (r : Refusal) (at : ℕ) → (number unknown ≡ number r → ⊥) → (number untimely ≡ number r → ⊥) → action_of c.code ≡ some h → step A L R S c ≡ refused r at → act A L R h S c ≡ refused r at
   refused_acted S c h r at not1 not3 head e =
-      let a = past (need unknown (action_of c.code)) _ r at (need_not unknown r at _ not1) e in
-      let b = past (require untimely (allowed a.0 (stage_of S))) _ r at (require_not untimely r at _ not3) a.2 in
+      let a = past_need unknown r at (action_of c.code) _ not1 e in
+      let b = past_test untimely r 0 at (allowed a.0 (stage_of S)) _ not3 a.2 in
       subst (λ x. act A L R x S c ≡ refused r at) (some-injective _ _ (sym (needed unknown _ _ a.1) ∙ head)) b.2
 
   -- ---- `let`
@@ -77,7 +70,7 @@ module _ (A : Arithmetic) (L : Limits) (R : Room) where
   let_is_exact : (S : State) (c : Command) → c.code ≡ 72 → LetIsExact A L R S c
   let_is_exact S c code = record {
     binds = λ S' h. binds S' (acted S S' c a_let (ap action_of code) h);
-    unfounded_only = λ at h. only at (refused_acted S c a_let unfounded at (apart unknown unfounded (λ e. omega arith)) (apart untimely unfounded (λ e. omega arith)) (ap action_of code) h);
+    unfounded_only = λ at h. only at (refused_acted S c a_let unfounded at (λ e. omega arith) (λ e. omega arith) (ap action_of code) h);
     unfounded_where = λ P names stage shut nothing_concluded small room. step_acts S c a_let (ap action_of code) stage ∙ refuses P names shut nothing_concluded small room;
   }
     where
@@ -90,12 +83,12 @@ module _ (A : Arithmetic) (L : Limits) (R : Room) where
       only : (at : ℕ) → do_let A L R S c ≡ refused unfounded at
           → (P : Proof) × (proof_at S.names c.a ≡ some P) × ((φ : Formula) → Concludes (known_at S.names) [] P φ → ⊥) × (at ≡ misfit_at (known_at S.names) P)
       only at h =
-          let P = past (need unnamed (proof_at S.names c.a)) _ unfounded at (need_not unnamed unfounded at _ (apart unnamed unfounded (λ e. omega arith))) h in
-          let b6 = past (require unclosed (no_open_hypothesis P.0)) _ unfounded at (require_not unclosed unfounded at _ (apart unclosed unfounded (λ e. omega arith))) P.2 in
+          let P = past_need unnamed unfounded at (proof_at S.names c.a) _ (λ e. omega arith) h in
+          let b6 = past_test unclosed unfounded 0 at (no_open_hypothesis P.0) _ (λ e. omega arith) P.2 in
           elim (stopped_or_passed (concluded L R S.names 1 S.terms P.0) _ unfounded at b6.2) [
             | inl e ↦ let u = unfounded_so S.names S.terms P.0 at e in (P.0, needed unnamed _ _ P.1, u.0, u.1)
             | inr x ↦
-                let b8 = past (require crowded (holds_command L R S)) _ unfounded at (require_not crowded unfounded at _ (apart crowded unfounded (λ e. omega arith))) x.2 in
+                let b8 = past_test crowded unfounded 0 at (holds_command L R S) _ (λ e. omega arith) x.2 in
                 absurd (refused≢done unfounded at _ (sym b8.2))
           ]
 
@@ -131,9 +124,8 @@ module _ (A : Arithmetic) (L : Limits) (R : Room) where
     begun_refused : (at : ℕ) (w : Walked) → Walks w → begin L R S p w ≡ refused unfit at → w ≡ misfit at
     begun_refused at (misfit k) w h = ap misfit (refused_inj unfit unfit k at h).1
     begun_refused at (yields k met ψ) w h =
-        let b7 = past (require oversized (each_within L met)) _ unfit at (require_not oversized unfit at _ (apart oversized unfit (λ e. omega arith))) h in
-        let b8 = past (require crowded (holds_terms L R (keep_each S.terms (parts_of_each met)) && holds_command L R S)) _ unfit at
-        (require_not crowded unfit at _ (apart crowded unfit (λ e. omega arith))) b7.2 in
+        let b7 = past_test oversized unfit 0 at (each_within L met) _ (λ e. omega arith) h in
+        let b8 = past_test crowded unfit 0 at (holds_terms L R (keep_each S.terms (parts_of_each met)) && holds_command L R S) _ (λ e. omega arith) b7.2 in
         absurd (refused≢done unfit at _ (sym b8.2))
 
     begun_refuses : (w : Walked) → Walks w → ((ψ : Formula) → Turns (thing_arity S.names) 0 p φ ψ → ⊥) → (at : ℕ) × (w ≡ misfit at) × (begin L R S p w ≡ refused unfit at)
@@ -143,7 +135,7 @@ module _ (A : Arithmetic) (L : Limits) (R : Room) where
   initial_is_exact : (S : State) (c : Command) → c.code ≡ 71 → InitialIsExact A L R S c
   initial_is_exact S c code = record {
     binds = λ S' h. binds S' (acted S S' c an_initial (ap action_of code) h);
-    unfit_only = λ at h. only at (refused_acted S c an_initial unfit at (apart unknown unfit (λ e. omega arith)) (apart untimely unfit (λ e. omega arith)) (ap action_of code) h);
+    unfit_only = λ at h. only at (refused_acted S c an_initial unfit at (λ e. omega arith) (λ e. omega arith) (ap action_of code) h);
     unfit_where = λ p φ names asked stage new not_turned.
         let r = begun_refuses S p φ (walk (thing_arity S.names) 0 p φ) refl not_turned in
         (r.0, r.1, step_acts S c an_initial (ap action_of code) stage ∙ refuses p φ names asked new ∙ r.2);
@@ -160,9 +152,9 @@ module _ (A : Arithmetic) (L : Limits) (R : Room) where
           → (p : Plan) × (φ : Formula) × (plan_at S.names c.a ≡ some p) × (S.query ≡ some φ)
           × ((ψ : Formula) → Turns (thing_arity S.names) 0 p φ ψ → ⊥) × (walk (thing_arity S.names) 0 p φ ≡ misfit at)
       only at h =
-          let φ = past (need untimely S.query) _ unfit at (need_not untimely unfit at _ (apart untimely unfit (λ e. omega arith))) h in
-          let p = past (need unnamed (plan_at S.names c.a)) _ unfit at (need_not unnamed unfit at _ (apart unnamed unfit (λ e. omega arith))) φ.2 in
-          let b11 = past (require stale (new_symbols p.0 φ.0)) _ unfit at (require_not stale unfit at _ (apart stale unfit (λ e. omega arith))) p.2 in
+          let φ = past_need untimely unfit at S.query _ (λ e. omega arith) h in
+          let p = past_need unnamed unfit at (plan_at S.names c.a) _ (λ e. omega arith) φ.2 in
+          let b11 = past_test stale unfit 0 at (new_symbols p.0 φ.0) _ (λ e. omega arith) p.2 in
           let w = begun_refused S p.0 φ.0 at _ refl b11.2 in
           (p.0, φ.0, needed unnamed _ _ p.1, needed untimely _ _ φ.1, misfits S p.0 φ.0 at w, w)
 

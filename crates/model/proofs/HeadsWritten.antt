@@ -21,6 +21,7 @@ use Rattle.model.specs.Tests.{full, literal_admitted, closed_within, fact_operan
 use Rattle.model.specs.Written.{Makes, Rightly, writes_fact}
 use Rattle.model.specs.Writer.{only_symbols, is_of_kind, is_there, symbol_there, passes_by_head, leaf_command, unary_command, binary_code, stands_in, number_of, makes_term, fact_command}
 use Rattle.model.proofs.Places.{bind_some, tree_there}
+use Rattle.model.proofs.SymbolsNamed.{full_by_symbols}
 
 -- what the names have to give: the symbols, by the numbers from 1 on, and what is known
 pub record Grounds (ss : List Symbol) (knows : ℕ → Option Formula) (N : Names) : Type 0 where
@@ -40,14 +41,9 @@ KnownLeaf knows (Leaf.known k) = (φ : Formula) × (knows k ≡ some φ)
 
 kinds_same : (j k : Kind) → same_kind j k ≡ true → j ≡ k
 kinds_same thing thing h = refl
-kinds_same thing number h = absurd (false≢true h)
-kinds_same thing predicate h = absurd (false≢true h)
-kinds_same number thing h = absurd (false≢true h)
 kinds_same number number h = refl
-kinds_same number predicate h = absurd (false≢true h)
-kinds_same predicate thing h = absurd (false≢true h)
-kinds_same predicate number h = absurd (false≢true h)
 kinds_same predicate predicate h = refl
+kinds_same j k h = absurd (false≢true h)
 
 of_kind : (o : Option Symbol) (k : Kind) → is_of_kind o k ≡ true → (y : Symbol) × (o ≡ some y) × (y.kind ≡ k)
 of_kind none k h = absurd (false≢true h)
@@ -56,18 +52,6 @@ of_kind (some y) k h = (y, refl, kinds_same y.kind k h)
 there : (o : Option Symbol) → is_there o ≡ true → (y : Symbol) × (o ≡ some y)
 there none h = absurd (false≢true h)
 there (some y) h = (y, refl)
-
--- arguments are counted by the symbols alone
-full_by_symbols : (N : Names) (t : Tree) → full N t ≡ full (only_symbols N.symbols) t
-full_by_symbols N (leaf x) = refl
-full_by_symbols N (unary (Unary.application k s) t) = refl
-full_by_symbols N (unary Unary.minus t) = refl
-full_by_symbols N (unary Unary.neg t) = refl
-full_by_symbols N (unary Unary.forall t) = refl
-full_by_symbols N (unary (Unary.step h) t) = refl
-full_by_symbols N (unary Unary.eqrefl t) = refl
-full_by_symbols N (unary (Unary.from r) t) = refl
-full_by_symbols N (binary h t u) = refl
 
 module _ (A : Arithmetic) (ss : List Symbol) (knows : ℕ → Option Formula) (N : Names) (g : Grounds ss knows N) where
   -- a head that assembles the term writes it

@@ -1,39 +1,22 @@
 -- The writer writes no term twice.
 use Rattle.command.specs.declared.command.Command.{Command}
-use Rattle.std.proofs.Common.{◌≡◌, ℕ, suc, ◌+◌, ◌≤◌, true, false, ◌||◌, ◌⊎◌, List, [], ◌∷◌, ◌++◌, length, sym, refl, ap, ◌∙◌, subst, inl, inr, append-nil, le_trans, le_refl, arith}
-use mathlib.Core.Bool.{false≢true}
-use mathlib.Core.Option.{Option, none, some}
-use Rattle.std.proofs.lemmas.Bool.{cases_Bool, or_cases, or_left, or_right, cond_both, both_ways}
-use Rattle.logic.specs.Tree.{Tree, leaf, unary, binary, same_tree, size, formula_tree, plan_tree, proof_tree}
-use Rattle.logic.proofs.Trees.{same_tree_true}
-use Rattle.model.specs.State.{Symbol, Result, symbol, term, fact, nothing, Names, no_names, with_result, with_symbol, the_tree, has, keep, keep_each}
+use Rattle.std.proofs.Common.{◌≡◌, ℕ, suc, ◌+◌, ◌≤◌, true, false, ◌⊎◌, List, [], ◌∷◌, ◌++◌, length, sym, refl, ap, ◌∙◌, subst, inl, inr, append-nil, le_trans, le_refl, arith}
+use mathlib.Core.Option.{none}
+use Rattle.std.proofs.lemmas.Bool.{cases_Bool, cond_both, both_ways}
+use Rattle.logic.specs.Tree.{Tree, leaf, unary, binary, size, formula_tree, plan_tree, proof_tree}
+use Rattle.model.specs.State.{Symbol, Result, symbol, term, fact, nothing, Names, no_names, with_result, with_symbol, the_tree}
+use Rattle.logic.specs.Keeping.{has, keep, keep_each}
 use Rattle.model.specs.Commands.{plain}
 use Rattle.model.specs.Tests.{fact_operands}
 use Rattle.model.specs.Written.{Line, named_each}
-use Rattle.model.specs.Writer.{StatedFact, Refutation, leaf_command, unary_command, binary_code, is_tree, stands_in, number_of, line, makes_term, unless, write, write_each, symbol_lines, fact_terms, at_fact, fact_lines}
+use Rattle.model.specs.Writer.{StatedFact, Refutation, leaf_command, unary_command, binary_code, stands_in, number_of, line, makes_term, unless, write, write_each, symbol_lines, fact_terms, at_fact, fact_lines}
 use Rattle.model.specs.Writer.{at_query, asked, before, at_initial, begun, after_facts, proof_written, at_end, write_out, tree_before, trees_in, RefutationsCanBeWrittenOut}
-use Rattle.model.proofs.Keeping.{keep_each_append, keep_absent}
-use Rattle.model.proofs.Places.{named_each_append}
+use Rattle.logic.proofs.Keepings.{keep_each_append, keep_new, last_or_had}
+use Rattle.model.proofs.Places.{stands_is_has, trees_last, named_each_append}
 use Rattle.model.proofs.Accepting.{that_refutations_are_accepted}
 use Rattle.model.proofs.Writing.{named_makes, written}
 
 -- ---- the terms among the results
-
-stands_is_has : (l : List Result) (t : Tree) → stands_in l t ≡ has (trees_in l) t
-stands_is_has [] t = refl
-stands_is_has (x ∷ l) t = ap (λ b. is_tree t (the_tree x) || b) (stands_is_has l t) ∙ one_more (the_tree x)
-  where
-    one_more : (o : Option Tree) → (is_tree t o || has (trees_in l) t) ≡ has (tree_before o (trees_in l)) t
-    one_more none = refl
-    one_more (some u) = refl
-
-trees_last : (l : List Result) (x : Result) → trees_in (l ++ (x ∷ [])) ≡ trees_in l ++ tree_before (the_tree x) []
-trees_last [] x = refl
-trees_last (y ∷ l) x = ap (tree_before (the_tree y)) (trees_last l x) ∙ one_more (the_tree y)
-  where
-    one_more : (o : Option Tree) → tree_before o (trees_in l ++ tree_before (the_tree x) []) ≡ tree_before o (trees_in l) ++ tree_before (the_tree x) []
-    one_more none = refl
-    one_more (some u) = refl
 
 -- each stands once
 abbrev Once : Names → Type 0
@@ -43,7 +26,7 @@ once_term : (N : Names) (t : Tree) → Once N → stands_in N.results t ≡ fals
 once_term N t o new =
     let l = trees_in N.results in
     let e : trees_in (N.results ++ (term t ∷ [])) ≡ l ++ (t ∷ []) = trees_last N.results (term t) in
-    ap (keep_each []) e ∙ keep_each_append [] l (t ∷ []) ∙ ap (λ k. keep k t) o ∙ keep_absent l t (sym (stands_is_has N.results t) ∙ new) ∙ sym e
+    ap (keep_each []) e ∙ keep_each_append [] l (t ∷ []) ∙ ap (λ k. keep k t) o ∙ keep_new l t (sym (stands_is_has N.results t) ∙ new) ∙ sym e
 
 once_other : (N M : Names) (x : Result) → M.results ≡ N.results ++ (x ∷ []) → the_tree x ≡ none → Once N → Once M
 once_other N M x adds no_tree o =
@@ -51,11 +34,10 @@ once_other N M x adds no_tree o =
     ap (keep_each []) e ∙ o ∙ sym e
 
 stands_or_last : (l : List Result) (t u : Tree) → stands_in (l ++ (term t ∷ [])) u ≡ true → (stands_in l u ≡ true) ⊎ (u ≡ t)
-stands_or_last [] t u h = elim (or_cases (same_tree u t) false h) [ inl e ↦ inr (same_tree_true u t e) | inr e ↦ absurd (false≢true e) ]
-stands_or_last (x ∷ l) t u h =
-    elim (or_cases (is_tree u (the_tree x)) (stands_in (l ++ (term t ∷ [])) u) h) [
-      | inl e ↦ inl (or_left _ _ e)
-      | inr e ↦ elim (stands_or_last l t u e) [ inl i ↦ inl (or_right (is_tree u (the_tree x)) _ i) | inr j ↦ inr j ]
+stands_or_last l t u h =
+    elim (last_or_had (trees_in l) t u (ap (λ k. has k u) (sym (trees_last l (term t))) ∙ sym (stands_is_has (l ++ (term t ∷ [])) u) ∙ h)) [
+      | inl e ↦ inr e
+      | inr e ↦ inl (stands_is_has l u ∙ e)
     ]
 
 -- ---- names that grow by new terms of size at most n, each once

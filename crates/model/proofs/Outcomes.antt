@@ -54,12 +54,8 @@ stopped_or_passed (done x) f r at h = inr (x, refl, h)
 stopped_or_passed {X} {Y} (refused n p) f r at h = inl (ap (refused_as {Y = X} (refused n p)) h)
 
 -- a test that does not refuse so was passed
-pub past : {X Y : Type 0} (m : Outcome X) (f : X → Outcome Y) (r : Refusal) (at : ℕ) → (m ≡ refused r at → ⊥) → (m >>= f) ≡ refused r at → (x : X) × (m ≡ done x) × (f x ≡ refused r at)
+past : {X Y : Type 0} (m : Outcome X) (f : X → Outcome Y) (r : Refusal) (at : ℕ) → (m ≡ refused r at → ⊥) → (m >>= f) ≡ refused r at → (x : X) × (m ≡ done x) × (f x ≡ refused r at)
 past m f r at not_so h = elim (stopped_or_passed m f r at h) [ inl e ↦ absurd (not_so e) | inr p ↦ p ]
-
--- refusals of different numbers are different
-pub apart : (r r' : Refusal) → (number r ≡ number r' → ⊥) → r ≡ r' → ⊥
-apart r r' differs e = differs (ap number e)
 
 pub need_refused : {X : Type 0} (n r : Refusal) (at : ℕ) (o : Option X) → need n o ≡ refused r at → (o ≡ none) × (n ≡ r) × (0 ≡ at)
 need_refused n r at none e = let i = refused_inj n r 0 at e in (refl, i.0, i.1)
@@ -68,6 +64,15 @@ need_refused n r at (some x) e = absurd (refused≢done r at x (sym e))
 pub require_refused : (n r : Refusal) (p at : ℕ) (b : Bool) → require_at p n b ≡ refused r at → (b ≡ false) × (n ≡ r) × (p ≡ at)
 require_refused n r p at true e = absurd (refused≢done r at tt (sym e))
 require_refused n r p at false e = let i = refused_inj n r p at e in (refl, i.0, i.1)
+
+-- what refuses with another number was passed
+pub past_need : {X Y : Type 0} (n r : Refusal) (at : ℕ) (o : Option X) (f : X → Outcome Y) → (number n ≡ number r → ⊥) → (need n o >>= f) ≡ refused r at
+    → (x : X) × (need n o ≡ done x) × (f x ≡ refused r at)
+past_need n r at o f differs = past (need n o) f r at (λ e. differs (ap number (need_refused n r at o e).1))
+
+pub past_test : {Y : Type 0} (n r : Refusal) (p at : ℕ) (b : Bool) (f : Unit {0} → Outcome Y) → (number n ≡ number r → ⊥) → (require_at p n b >>= f) ≡ refused r at
+    → (x : Unit {0}) × (require_at p n b ≡ done x) × (f x ≡ refused r at)
+past_test n r p at b f differs = past (require_at p n b) f r at (λ e. differs (ap number (require_refused n r p at b e).1))
 
 -- ---- tests that pass
 

@@ -1,6 +1,7 @@
 -- Tests that each part of a term passes, and what those tests show of the whole term.
-use Rattle.std.proofs.Common.{◌≡◌, ℕ, zero, suc, ◌<◌, Bool, true, false, eqb, List, [], ◌∷◌, ◌++◌, length, refl, subst, inl, inr, arith}
+use Rattle.std.proofs.Common.{◌≡◌, ℕ, zero, suc, ◌<◌, Bool, true, false, eqb, List, [], ◌∷◌, ◌++◌, length, sym, refl, ◌∙◌, subst, inl, inr, arith}
 use mathlib.Core.Bool.{false≢true}
+use mathlib.Core.Option.{Option, none}
 use lib.ListN.{get_elem?}
 use Rattle.std.proofs.lemmas.Bool.{and_parts, and_from, or_cases, or_left, or_right, eqb-true}
 use Rattle.logic.specs.Syntax.{Plan, Proof, OneSided, skip, skol, recnn, id, step, fork, hyp, known, assume, eqrefl_thing, eqrefl_number, eqsub, inst, from, from_both}
@@ -85,20 +86,16 @@ proof_closed (from_both r P Q) e =
 
 -- ---- symbols
 
-symbol_within : (ss : List Symbol) (s : ℕ) → is_there (get_elem? ss s) ≡ true → s < length ss
-symbol_within [] s e = absurd (false≢true e)
-symbol_within (y ∷ ss) zero e = omega arith
-symbol_within (y ∷ ss) (suc s) e = let h = symbol_within ss s e in omega arith
-
-kind_within : (ss : List Symbol) (k : Kind) (s : ℕ) → is_of_kind (get_elem? ss s) k ≡ true → s < length ss
-kind_within [] k s e = absurd (false≢true e)
-kind_within (y ∷ ss) k zero e = omega arith
-kind_within (y ∷ ss) k (suc s) e = let h = kind_within ss k s e in omega arith
+-- where a test passes that the lack of a symbol fails
+there_within : (test : Option Symbol → Bool) → test none ≡ false → (ss : List Symbol) (s : ℕ) → test (get_elem? ss s) ≡ true → s < length ss
+there_within test fails [] s e = absurd (false≢true (sym fails ∙ e))
+there_within test fails (y ∷ ss) zero e = omega arith
+there_within test fails (y ∷ ss) (suc s) e = let h = there_within test fails ss s e in omega arith
 
 -- a symbol that a term applies is there
 applied_within : (ss : List Symbol) (k : Kind) (s : ℕ) (h : Unary) (t : Tree) → own_symbol_there ss (unary h t) ≡ true → applies k s h ≡ true → s < length ss
 applied_within ss k s (Unary.application j r) t e a =
-    subst (λ x. x < length ss) (cc (eqb-true s r (and_parts (same_kind k j) (eqb s r) a).1)) (kind_within ss j r e)
+    subst (λ x. x < length ss) (cc (eqb-true s r (and_parts (same_kind k j) (eqb s r) a).1)) (there_within (λ o. is_of_kind o j) refl ss r e)
 applied_within ss k s Unary.minus t e a = absurd (false≢true a)
 applied_within ss k s Unary.neg t e a = absurd (false≢true a)
 applied_within ss k s Unary.forall t e a = absurd (false≢true a)
@@ -126,7 +123,7 @@ member_of s (r ∷ l) m X f g h =
 own_within : (ss : List Symbol) (h : OneSided) (t : Tree) (s : ℕ) → own_symbol_there ss (unary (Unary.step h) t) ≡ true → member s (own_symbol h) ≡ true → s < length ss
 own_within ss skip t s e m = absurd (false≢true m)
 own_within ss (skol r) t s e m =
-    elim (or_cases (eqb s r) false m) [ inl i ↦ subst (λ x. x < length ss) (cc (eqb-true s r i)) (symbol_within ss r e) | inr i ↦ absurd (false≢true i) ]
+    elim (or_cases (eqb s r) false m) [ inl i ↦ subst (λ x. x < length ss) (cc (eqb-true s r i)) (there_within is_there refl ss r e) | inr i ↦ absurd (false≢true i) ]
 own_within ss recnn t s e m = absurd (false≢true m)
 
 -- the Skolem symbols of a plan are there

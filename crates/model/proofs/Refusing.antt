@@ -17,7 +17,8 @@ use Rattle.logic.specs.Positions.{conclusions}
 use Rattle.logic.specs.Closed.{closed}
 use Rattle.model.specs.Refusal.{Refusal, unknown, untimely, unnamed, miscounted, unclosed, oversized, crowded, unfounded, unfit, stale, different, unadmitted, unrefuted, positioned, Outcome, done, refused, ◌>>=◌, require, require_at, need}
 use Rattle.model.specs.Limits.{Limits, Room, within}
-use Rattle.model.specs.State.{Names, State, known_at, formula_at, plan_at, proof_at, thing_arity, keep, keep_each}
+use Rattle.model.specs.State.{Names, State, known_at, formula_at, plan_at, proof_at, thing_arity}
+use Rattle.logic.specs.Keeping.{keep, keep_each}
 use Rattle.model.specs.Commands.{Maker, Action, a_symbol, a_term, a_deduction, a_fact, a_query, an_initial, a_let, a_same, a_shows, a_final, action, acting, action_of, made, named_fact}
 use Rattle.model.specs.Tests.{full, literal_admitted, closed_within, closed_fact, new_symbols}
 use Rattle.model.specs.Session.{stage_of, allowed, stated, Concluded, holds_terms, holds_command, no_open_hypothesis, parts_of_each, each_within, begin, settle, concluded, do_make, act, step, kept, after}

@@ -1,9 +1,8 @@
 -- A run is the fold of a session over the commands that it took, and so what it accepts holds in no world.
 use Rattle.command.specs.declared.command.Command.{Command}
-use Rattle.command.specs.declared.command.Content.{Content}
-use Rattle.command.specs.declared.command.Content.TheVariants.{Command as command, Spoiled as spoiled}
 use Rattle.command.specs.declared.command.Item.{Item}
-use Rattle.std.proofs.Common.{◌≡◌, ℕ, suc, Bool, true, false, List, [], ◌∷◌, ◌++◌, sym, refl, ap, ◌∙◌, append_assoc, append-nil}
+use Rattle.std.proofs.Common.{◌≡◌, ℕ, suc, Bool, true, false, List, [], ◌∷◌, ◌++◌, Some, None, sym, refl, ap, ◌∙◌, append_assoc, append-nil}
+use Rattle.std.specs.declared.option.Option as Rust
 use mathlib.Core.Bool.{false≢true}
 use mathlib.Core.Option.{Option, none, some}
 use Rattle.logic.specs.Syntax.{Formula}
@@ -46,10 +45,10 @@ module _ (A : Arithmetic) (L : Limits) (R : Room) where
   reads_answer file i l rest S (done S') leads next = reads_closed file i l rest S S' S'.closed refl leads next
   reads_answer file i l rest S (refused r at) leads next = stops S S i l (refuses file i.line r at) leads not_accepted
 
-  reads_content : (file line : ℕ) (x : Content) (l : List Item) (rest : State → Reading) (S : State) → ((X : State) → Reads X l (rest X))
+  reads_content : (file line : ℕ) (x : Rust.Option Command) (l : List Item) (rest : State → Reading) (S : State) → ((X : State) → Reads X l (rest X))
       → Reads S (record { line = line; content = x } ∷ l) (read_content A L R file S line rest x)
-  reads_content file line (command c) l rest S next = reads_answer file (record { line = line; content = command c }) l rest S (step A L R S c) (λ cs. refl) next
-  reads_content file line spoiled l rest S next = stops S S (record { line = line; content = spoiled }) l (refuses file line unknown 0) (λ cs. refl) not_accepted
+  reads_content file line (Some c) l rest S next = reads_answer file (record { line = line; content = Some c }) l rest S (step A L R S c) (λ cs. refl) next
+  reads_content file line None l rest S next = stops S S (record { line = line; content = None }) l (refuses file line unknown 0) (λ cs. refl) not_accepted
 
   reads : (file : ℕ) (l : List Item) (S : State) (next : ℕ) → Reads S l (read A L R file S next l)
   reads file [] S next = refl
@@ -61,9 +60,9 @@ module _ (A : Arithmetic) (L : Limits) (R : Room) where
   commands_append [] m = refl
   commands_append (i ∷ l) m = ap (command_before i.content) (commands_append l m) ∙ split i.content
     where
-      split : (x : Content) → command_before x (commands_in l ++ commands_in m) ≡ command_before x (commands_in l) ++ commands_in m
-      split (command c) = refl
-      split spoiled = refl
+      split : (x : Rust.Option Command) → command_before x (commands_in l ++ commands_in m) ≡ command_before x (commands_in l) ++ commands_in m
+      split (Some c) = refl
+      split None = refl
 
   after_append : (cs ds : List Command) (S : State) → after A L R S (cs ++ ds) ≡ after A L R (after A L R S cs) ds
   after_append [] ds S = refl

@@ -1,5 +1,5 @@
 -- What a proof's sub-proofs conclude is settled if it fits, and refused as unfounded at the first that concludes nothing.
-use Rattle.std.proofs.Common.{◌≡◌, ℕ, suc, ◌≤◌, Bool, true, false, leb, List, [], ◌∷◌, map, length, sym, refl, ap, ◌∙◌, subst, arith}
+use Rattle.std.proofs.Common.{◌≡◌, ℕ, suc, ◌≤◌, true, false, leb, List, [], ◌∷◌, map, length, sym, refl, ap, ◌∙◌, subst, arith}
 use mathlib.Core.Bool.{false≢true}
 use mathlib.Core.Option.{Option, none, some}
 use Rattle.std.proofs.lemmas.Bool.{and_parts, le-leb, true≢false}
@@ -8,14 +8,14 @@ use Rattle.logic.specs.Tree.{Tree, formula_tree, parts}
 use Rattle.logic.specs.Rules.{Concludes}
 use Rattle.logic.specs.Positions.{conclusions, first_none}
 use Rattle.logic.proofs.PositionsRight.{all_some, none_named, none_lacks, fits, no_misfit}
-use Rattle.model.specs.Refusal.{Refusal, oversized, crowded, unfounded, done, refused, require_at}
+use Rattle.model.specs.Refusal.{oversized, crowded, unfounded, done, refused, require_at}
 use Rattle.model.specs.Limits.{Limits, Room, within}
-use Rattle.model.specs.State.{keep_each}
+use Rattle.logic.specs.Keeping.{keep_each}
 use Rattle.model.specs.Tests.{each}
 use Rattle.model.specs.Session.{settle, holds_terms, parts_of_each, each_within}
 use Rattle.model.specs.Theorems.{before_misfit}
-use Rattle.model.proofs.Outcomes.{passed, done_inj, refused≢done, refused_inj, require_refused, past, apart, passes, then}
-use Rattle.model.proofs.Keeping.{keep_each_append, part_fits}
+use Rattle.model.proofs.Outcomes.{passed, done_inj, refused≢done, refused_inj, past_test, passes, then}
+use Rattle.logic.proofs.Keepings.{keep_each_append, part_fits}
 
 -- where the proof concludes something each sub-proof does, and the other way round
 pub each_concludes : (made : ℕ → Option Formula) (P : Proof) (φ : Formula) → Concludes made [] P φ → all_some (conclusions made [] P) ≡ true
@@ -68,14 +68,11 @@ module _ (L : Limits) (R : Room) where
       let r = settled (suc at) vs us l b.2 in
       (r.0, r.1 ∙ sym (keep_each_append ts (parts (formula_tree φ)) (parts_of_each (before_misfit l))))
 
-  not_so : (r : Refusal) (p at : ℕ) (b : Bool) → (r ≡ unfounded → ⊥) → require_at p r b ≡ refused unfounded at → ⊥
-  not_so r p at b differs e = differs (require_refused r unfounded p at b e).1
-
   pub settle_refused : (at p : ℕ) (ts : List Tree) (l : List (Option Formula)) → settle L R (suc at) ts l ≡ refused unfounded p → (all_some l ≡ false) × (p ≡ first_none at l)
   settle_refused at p ts [] h = absurd (refused≢done unfounded p ts (sym h))
   settle_refused at p ts (none ∷ l) h = (refl, sym (refused_inj unfounded unfounded (suc at) p h).1)
   settle_refused at p ts (some φ ∷ l) h =
       let us = keep_each ts (parts (formula_tree φ)) in
-      let a = past (require_at (suc at) oversized (within L (formula_tree φ))) _ unfounded p (not_so oversized (suc at) p _ (apart oversized unfounded (λ e. omega arith))) h in
-      let b = past (require_at (suc at) crowded (holds_terms L R us)) _ unfounded p (not_so crowded (suc at) p _ (apart crowded unfounded (λ e. omega arith))) a.2 in
+      let a = past_test oversized unfounded (suc at) p (within L (formula_tree φ)) _ (λ e. omega arith) h in
+      let b = past_test crowded unfounded (suc at) p (holds_terms L R us) _ (λ e. omega arith) a.2 in
       settle_refused (suc at) p us l b.2

@@ -2,7 +2,7 @@
 use Rattle.command.specs.declared.command.Command.{Command}
 use Rattle.std.proofs.Common.{◌≡◌, ℕ, Bool, true, false, not, ◌||◌, eqb, List, [], ◌∷◌, length, sym, refl, ◌∙◌, subst, inl, inr}
 use mathlib.Core.Bool.{false≢true}
-use mathlib.Core.Option.{Option, none, some, none-ne-some, some-injective}
+use mathlib.Core.Option.{Option, none, some, some-injective}
 use Rattle.std.proofs.lemmas.Bool.{and_parts, or_parts, or_cases, not-true, eqb-true}
 use Rattle.logic.specs.Syntax.{Formula, Plan, Proof, falsity}
 use Rattle.logic.specs.Tree.{Kind, thing, number, predicate, Tree, formula_tree, stands, parts}
@@ -14,16 +14,17 @@ use Rattle.logic.proofs.RulesAre.{concluded as concludes}
 use Rattle.logic.proofs.PlansAre.{turned}
 use Rattle.logic.proofs.FactsAre.{fact_stated}
 use Rattle.logic.proofs.Theorems.{that_conclusions_hold, that_facts_hold, that_plans_hold_after_rereading}
-use Rattle.model.specs.Refusal.{Outcome, done, refused}
+use Rattle.model.specs.Refusal.{done}
 use Rattle.model.specs.Limits.{Limits, Room}
-use Rattle.model.specs.State.{Result, symbol, term, fact, nothing, Names, with_result, with_symbol, Start, State, state, fresh, the_tree, the_fact, known_at, thing_arity, keep, keep_each}
+use Rattle.model.specs.State.{Result, symbol, term, fact, nothing, Names, with_result, with_symbol, Start, State, state, fresh, the_tree, the_fact, known_at, thing_arity}
+use Rattle.logic.specs.Keeping.{keep, keep_each}
 use Rattle.model.specs.Commands.{Maker, FactHead, Action, a_symbol, a_term, a_deduction, a_fact, a_query, an_initial, a_let, a_same, a_shows, a_final}
 use Rattle.model.specs.Tests.{appears, none_appears, new_symbols}
 use Rattle.model.specs.Session.{stage_from, stage_of, taken, allowed, accept}
-use Rattle.model.specs.Session.{do_symbol, do_make, do_fact, do_query, do_initial, do_let, do_final, act, step, kept, after}
+use Rattle.model.specs.Session.{do_symbol, do_make, do_fact, do_query, do_initial, do_let, do_final, act, step, after}
 use Rattle.model.specs.Theorems.{StartHolds, Sound, Always, KnownFormulasHold, InitialFormulasHoldAfterRereading, RefutedQueriesHoldNowhere}
-use Rattle.model.proofs.Accepted.{step_accepted, symbol_accepted, make_accepted, fact_accepted, query_accepted, initial_accepted, let_accepted, same_accepted, shows_accepted, final_accepted}
-use Rattle.model.proofs.Names.{Adds, before_or_new, none_named}
+use Rattle.model.proofs.Accepted.{step_accepted, symbol_accepted, make_accepted, fact_accepted, query_accepted, initial_accepted, let_accepted, same_accepted, shows_accepted, final_accepted, holds_after}
+use Rattle.model.proofs.Names.{Adds, nothing_of, before_or_new, none_named}
 use Rattle.model.proofs.Admitting.{AllAdmitted, Passes, made_admitted, fact_admitted, stated_admitted}
 
 -- ---- stages
@@ -79,9 +80,6 @@ module _ (A : Arithmetic) (law : Lawful A) (L : Limits) (R : Room) where
 
   literals_more : (N M : Names) (x : Result) → Adds N x M → AllAdmitted A N → ((t : Tree) → the_tree x ≡ some t → Passes A t) → AllAdmitted A M
   literals_more N M x adds old new k t h = elim (before_or_new the_tree N M x adds k t h) [ inl e ↦ old k t e | inr e ↦ new t e ]
-
-  nothing_of : {X Y : Type 0} (x : X) → none ≡ some x → Y
-  nothing_of x h = absurd (none-ne-some x h)
 
   -- one more result, which is true and has admitted literals
   good_more : (S : State) (N : Names) (ts : List Tree) (x : Result) → Adds S.names x N → Good S
@@ -202,14 +200,6 @@ module _ (A : Arithmetic) (law : Lawful A) (L : Limits) (R : Room) where
   good_step : (S S' : State) (c : Command) → Good S → step A L R S c ≡ done S' → Good S'
   good_step S S' c g e = let (h, head, stage, acts) = step_accepted A L R S S' c e in good_act h S S' c g stage acts
 
-  good_kept : (S : State) (o : Outcome State) → Good S → ((S' : State) → o ≡ done S' → Good S') → Good (kept S o)
-  good_kept S (done S') g h = h S' refl
-  good_kept S (refused r at) g h = g
-
-  good_after : (cs : List Command) (S : State) → Good S → Good (after A L R S cs)
-  good_after [] S g = g
-  good_after (c ∷ cs) S g = good_after cs (kept S (step A L R S c)) (good_kept S (step A L R S c) g (λ S' h. good_step S S' c g h))
-
   good_fresh : Good fresh
   good_fresh = record {
     sound = record {
@@ -220,8 +210,11 @@ module _ (A : Arithmetic) (law : Lawful A) (L : Limits) (R : Room) where
     literals = λ k t h. nothing_of t (sym (none_named the_tree k) ∙ h);
   }
 
+  good_after : (cs : List Command) → Good (after A L R fresh cs)
+  good_after cs = holds_after A L R Good good_step cs fresh good_fresh
+
 pub always_sound : Always Sound
-always_sound A law L R cs = (good_after A law L R cs fresh (good_fresh A law L R)).sound
+always_sound A law L R cs = (good_after A law L R cs).sound
 
 pub that_known_formulas_hold : KnownFormulasHold
 that_known_formulas_hold A law L R cs = (always_sound A law L R cs).known_hold

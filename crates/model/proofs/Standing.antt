@@ -1,7 +1,7 @@
 -- Every state that a session comes to stands.
 use Rattle.command.specs.declared.command.Command.{Command}
 use Rattle.std.proofs.Common.{◌≡◌, ℕ, ◌<◌, ◌≤◌, Bool, true, false, List, [], ◌∷◌, ◌++◌, length, ℤ, sym, refl, ap, ◌∙◌, subst, inl, inr, arith}
-use mathlib.Core.Option.{Option, none, some, none-ne-some, some-injective}
+use mathlib.Core.Option.{Option, none, some, some-injective}
 use Rattle.std.proofs.lemmas.Bool.{and_from}
 use Rattle.logic.specs.Syntax.{Formula}
 use Rattle.logic.specs.Tree.{Leaf, Tree, leaf, unary, binary, formula_tree, parts}
@@ -12,25 +12,22 @@ use Rattle.logic.proofs.RulesAre.{bound, concluded as concludes}
 use Rattle.logic.proofs.PlansAre.{turned}
 use Rattle.logic.proofs.FactsAre.{fact_stated}
 use Rattle.logic.proofs.Theorems.{that_closedness_is_kept}
-use Rattle.model.specs.Refusal.{Outcome, done, refused}
+use Rattle.model.specs.Refusal.{done}
 use Rattle.model.specs.Limits.{Limits, Room, within}
 use Rattle.model.specs.State.{Symbol, Result, symbol, term, fact, nothing, Names, with_result, with_symbol, Start, State, state, fresh, the_symbol, the_tree, the_fact, tree_at, known_at, thing_arity}
 use Rattle.model.specs.Commands.{Maker, Action, a_symbol, a_term, a_deduction, a_fact, a_query, an_initial, a_let, a_same, a_shows, a_final, assembled, made}
 use Rattle.model.specs.Tests.{each, literal_admitted}
-use Rattle.model.specs.Session.{stage_of, allowed, accept, do_make, act, step, kept, after}
+use Rattle.model.specs.Session.{stage_of, allowed, accept, do_make, act, step}
 use Rattle.model.specs.Writer.{own_symbol_there, passes_by_head, proper}
 use Rattle.model.specs.Standing.{is_term, has_term, is_begun, Standing, SessionsStand}
-use Rattle.model.proofs.Accepted.{step_accepted, symbol_accepted, make_accepted, fact_accepted, query_accepted, initial_accepted, let_accepted, same_accepted, shows_accepted, final_accepted}
-use Rattle.model.proofs.Names.{Adds, before_or_new, none_named, formula_named}
+use Rattle.model.proofs.Accepted.{step_accepted, symbol_accepted, make_accepted, fact_accepted, query_accepted, initial_accepted, let_accepted, same_accepted, shows_accepted, final_accepted, holds_after}
+use Rattle.model.proofs.Names.{Adds, nothing_of, before_or_new, none_named, formula_named}
 use Rattle.model.proofs.Admitting.{assembled_has, assembled_made}
 use Rattle.model.proofs.Soundness.{while_proving}
 use Rattle.model.proofs.Parts.{itself, leaf_passes, one_passes, two_pass}
 use Rattle.model.proofs.SymbolsNamed.{NamesGiven, MakesGiven, action_names_given, assembled_symbol, full_by_symbols, proper_still}
 use Rattle.model.proofs.Closing.{stated_closed}
 use Rattle.model.proofs.StandingShows.{proof_closed_named}
-
-nothing_of : {X Y : Type 0} (x : X) → none ≡ some x → Y
-nothing_of x e = absurd (none-ne-some x e)
 
 -- ---- a term made of terms whose parts pass a test, and which passes it itself
 
@@ -56,23 +53,21 @@ module _ (A : Arithmetic) (L : Limits) where
     symbol_there : (s : ℕ) → the_symbol x ≡ some s → s < length ss
     fact_closed : (φ : Formula) → the_fact x ≡ some φ → closed (formula_tree φ) ≡ true
 
-  nothing_fits : (ss : List Symbol) → Fitting ss nothing
-  nothing_fits ss = record {
-    tree_typed = λ t e. nothing_of t e;
-    tree_proper = λ t e. nothing_of t e;
-    tree_within = λ t e. nothing_of t e;
-    symbol_there = λ s e. nothing_of s e;
-    fact_closed = λ φ e. nothing_of φ e;
+  -- what is no term
+  no_term_fits : (ss : List Symbol) (x : Result) → the_tree x ≡ none → ((s : ℕ) → the_symbol x ≡ some s → s < length ss) → ((φ : Formula) → the_fact x ≡ some φ → closed (formula_tree φ) ≡ true) → Fitting ss x
+  no_term_fits ss x no_term there shut = record {
+    tree_typed = λ t e. nothing_of t (sym no_term ∙ e);
+    tree_proper = λ t e. nothing_of t (sym no_term ∙ e);
+    tree_within = λ t e. nothing_of t (sym no_term ∙ e);
+    symbol_there = there;
+    fact_closed = shut;
   }
 
+  nothing_fits : (ss : List Symbol) → Fitting ss nothing
+  nothing_fits ss = no_term_fits ss nothing refl (λ s e. nothing_of s e) (λ φ e. nothing_of φ e)
+
   fact_fits : (ss : List Symbol) (φ : Formula) → closed (formula_tree φ) ≡ true → Fitting ss (fact φ)
-  fact_fits ss φ h = record {
-    tree_typed = λ t e. nothing_of t e;
-    tree_proper = λ t e. nothing_of t e;
-    tree_within = λ t e. nothing_of t e;
-    symbol_there = λ s e. nothing_of s e;
-    fact_closed = λ χ e. subst (λ x. closed (formula_tree x) ≡ true) (some-injective φ χ e) h;
-  }
+  fact_fits ss φ h = no_term_fits ss (fact φ) refl (λ s e. nothing_of s e) (λ χ e. subst (λ x. closed (formula_tree x) ≡ true) (some-injective φ χ e) h)
 
   term_fits : (ss : List Symbol) (t : Tree) → has_term t ≡ true → proper A ss t ≡ true → each (within L) (parts t) ≡ true → Fitting ss (term t)
   term_fits ss t typed p w = record {
@@ -134,13 +129,8 @@ module _ (A B : Arithmetic) (wider : (n : ℤ) → A.admits n ≡ true → B.adm
   stands_symbol S S' y s is =
       let ss = S.names.symbols in
       let longer = length_last ss y in
-      subst (Standing B L) (sym is) (standing_more B L S (with_symbol S.names y) S.terms S.query S.start S.closed (symbol (length ss)) refl (proper_still ss y B) (omega arith) s (record {
-        tree_typed = λ t e. nothing_of t e;
-        tree_proper = λ t e. nothing_of t e;
-        tree_within = λ t e. nothing_of t e;
-        symbol_there = λ r e. let i : length ss ≡ r = some-injective _ _ e in omega arith;
-        fact_closed = λ φ e. nothing_of φ e;
-      }) (as_staged B L S s))
+      subst (Standing B L) (sym is) (standing_more B L S (with_symbol S.names y) S.terms S.query S.start S.closed (symbol (length ss)) refl (proper_still ss y B) (omega arith) s
+      (no_term_fits B L (S.names.symbols ++ (y ∷ [])) (symbol (length ss)) refl (λ r e. let i : length ss ≡ r = some-injective _ _ e in omega arith) (λ φ e. nothing_of φ e)) (as_staged B L S s))
     where
       length_last : (l : List Symbol) (z : Symbol) → length l < length (l ++ (z ∷ []))
       length_last [] z = omega arith
@@ -206,14 +196,6 @@ module _ (A B : Arithmetic) (wider : (n : ℤ) → A.admits n ≡ true → B.adm
   pub standing_kept : (S : State) (c : Command) (S' : State) → Standing B L S → step A L R S c ≡ done S' → Standing B L S'
   standing_kept S c S' s e = let (h, head, stage, acts) = step_accepted A L R S S' c e in stands_act h S S' c (action_names_given c.code h head) stage s acts
 
-  stands_still : (S : State) (c : Command) (o : Outcome State) → step A L R S c ≡ o → Standing B L S → Standing B L (kept S o)
-  stands_still S c (done S') e s = standing_kept S c S' s e
-  stands_still S c (refused r at) e s = s
-
-  standing_from : (cs : List Command) (S : State) → Standing B L S → Standing B L (after A L R S cs)
-  standing_from [] S s = s
-  standing_from (c ∷ cs) S s = standing_from cs (kept S (step A L R S c)) (stands_still S c (step A L R S c) refl s)
-
 pub standing_fresh : (A : Arithmetic) (L : Limits) → Standing A L fresh
 standing_fresh A L = record {
   named_typed = λ k t h. nothing_of t (sym (none_named the_tree k) ∙ h);
@@ -228,4 +210,4 @@ standing_fresh A L = record {
 }
 
 pub standing_after : SessionsStand
-standing_after A L R cs = standing_from A A (λ n h. h) L R cs fresh (standing_fresh A L)
+standing_after A L R cs = holds_after A L R (Standing A L) (λ S S' c. standing_kept A A (λ n h. h) L R S c S') cs fresh (standing_fresh A L)

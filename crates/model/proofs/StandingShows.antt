@@ -5,17 +5,17 @@ use mathlib.Core.Option.{Option, none, some}
 use Rattle.std.proofs.lemmas.Bool.{and_parts}
 use Rattle.logic.specs.Syntax.{Formula, Plan, Proof}
 use Rattle.logic.specs.Tree.{Kind, Tree, parts, literals_pass, stands, plan_tree, proof_tree}
-use Rattle.logic.specs.Terms.{Term, term_tree, tree_term, as_plan, as_proof, of_plan, of_proof}
+use Rattle.logic.specs.Terms.{Term, tree_term, of_plan, of_proof}
 use Rattle.logic.specs.Arithmetic.{Arithmetic}
 use Rattle.logic.specs.Plans.{symbols, member}
 use Rattle.logic.specs.Closed.{closed_proof}
-use Rattle.logic.proofs.RulesAre.{bound}
-use Rattle.logic.proofs.TermsBack.{is_plan, is_proof, tree_of_term}
+use Rattle.logic.proofs.TermsBack.{tree_of_term}
 use Rattle.model.specs.Limits.{Limits, within}
-use Rattle.model.specs.State.{Symbol, Names, Start, State, tree_at, term_at, plan_at, proof_at}
+use Rattle.model.specs.State.{Symbol, Start, State, tree_at, plan_at, proof_at}
 use Rattle.model.specs.Tests.{each, full, literal_admitted, closed_within}
 use Rattle.model.specs.Writer.{only_symbols, own_symbol_there, passes_by_head, proper}
 use Rattle.model.specs.Standing.{is_term, is_begun, Standing}
+use Rattle.model.proofs.Names.{plan_named, proof_named}
 use Rattle.model.proofs.Parts.{itself, each_so, literals_admitted, proof_closed, standing_within, plan_symbols_within}
 
 -- ---- proper terms
@@ -35,20 +35,6 @@ module _ (A : Arithmetic) (ss : List Symbol) (t : Tree) (p : proper A ss t ≡ t
 
   pub proper_closed : each closed_within (parts t) ≡ true
   proper_closed = each_so (passes_by_head A ss) closed_within (λ u h. (by_head u h).2) (parts t) p
-
--- ---- the tree of a plan or proof that is named
-
-pub plan_named : (N : Names) (k : ℕ) (p : Plan) → plan_at N k ≡ some p → tree_at N k ≡ some (plan_tree p)
-plan_named N k p h =
-    let b = bound (term_at N k) as_plan p h in
-    let c = bound (tree_at N k) tree_term b.0 b.1 in
-    c.1 ∙ ap some (sym (tree_of_term c.0 b.0 c.2) ∙ ap term_tree (is_plan b.0 p b.2))
-
-pub proof_named : (N : Names) (k : ℕ) (P : Proof) → proof_at N k ≡ some P → tree_at N k ≡ some (proof_tree P)
-proof_named N k P h =
-    let b = bound (term_at N k) as_proof P h in
-    let c = bound (tree_at N k) tree_term b.0 b.1 in
-    c.1 ∙ ap some (sym (tree_of_term c.0 b.0 c.2) ∙ ap term_tree (is_proof b.0 P b.2))
 
 -- ---- states
 
@@ -93,16 +79,12 @@ module _ (A : Arithmetic) (L : Limits) (S : State) (s : Standing A L S) where
       plan_symbols_within ss p r (proper_symbols A ss (plan_tree p) (s.named_proper k (plan_tree p) (plan_named S.names k p h))) m
 
   -- what is begun, or closed, has a query
+  asked : (q : Option Formula) → (S.query ≡ none → ⊥) → S.query ≡ q → (φ : Formula) × (S.query ≡ some φ)
+  asked none has e = absurd (has e)
+  asked (some φ) has e = (φ, e)
+
   pub begun_asked : (b : Start) → S.start ≡ some b → (φ : Formula) × (S.query ≡ some φ)
-  begun_asked b h = asked S.query refl
-    where
-      asked : (q : Option Formula) → S.query ≡ q → (φ : Formula) × (S.query ≡ some φ)
-      asked none e = absurd (false≢true (sym (s.asking_unbegun e) ∙ ap is_begun h))
-      asked (some φ) e = (φ, e)
+  begun_asked b h = asked S.query (λ e. false≢true (sym (s.asking_unbegun e) ∙ ap is_begun h)) refl
 
   pub closed_asked : S.closed ≡ true → (φ : Formula) × (S.query ≡ some φ)
-  closed_asked h = asked S.query refl
-    where
-      asked : (q : Option Formula) → S.query ≡ q → (φ : Formula) × (S.query ≡ some φ)
-      asked none e = absurd (false≢true (sym (s.asking_unclosed e) ∙ h))
-      asked (some φ) e = (φ, e)
+  closed_asked h = asked S.query (λ e. false≢true (sym (s.asking_unclosed e) ∙ h)) refl

@@ -2,23 +2,23 @@
 use Rattle.command.specs.declared.command.Command.{Command}
 use Rattle.std.proofs.Common.{◌≡◌, ℕ, Bool, true, false, ◌⊎◌, List, [], ◌∷◌, ◌++◌, length, sym, refl, ◌∙◌, subst, inl, inr, append_assoc, append-nil}
 use mathlib.Core.Bool.{false≢true}
-use mathlib.Core.Option.{Option, none, some, none-ne-some, some-injective}
-use Rattle.std.proofs.lemmas.Bool.{cases_Bool, or_cases, or_left, or_right, cond_both}
+use mathlib.Core.Option.{Option, none, some, some-injective}
+use Rattle.std.proofs.lemmas.Bool.{cases_Bool, cond_both}
 use Rattle.logic.specs.Syntax.{Formula}
-use Rattle.logic.specs.Tree.{Tree, leaf, unary, binary, same_tree, operands, parts, formula_tree}
+use Rattle.logic.specs.Tree.{Tree, leaf, unary, binary, operands, parts, formula_tree}
 use Rattle.logic.specs.Arithmetic.{Arithmetic}
 use Rattle.logic.specs.Positions.{conclusions}
-use Rattle.logic.proofs.Trees.{same_tree_true}
-use Rattle.model.specs.Refusal.{Outcome, done, refused}
+use Rattle.model.specs.Refusal.{done}
 use Rattle.model.specs.Limits.{Limits, Room}
-use Rattle.model.specs.State.{Result, symbol, term, fact, nothing, Names, with_result, with_symbol, Start, State, state, fresh, the_tree, tree_at, known_at, has, keep, keep_each, HasEach}
+use Rattle.model.specs.State.{Result, symbol, term, fact, nothing, Names, with_result, with_symbol, Start, State, state, fresh, the_tree, tree_at, known_at}
+use Rattle.logic.specs.Keeping.{has, keep, keep_each, HasEach}
 use Rattle.model.specs.Commands.{Maker, FactHead, Action, a_symbol, a_term, a_deduction, a_fact, a_query, an_initial, a_let, a_same, a_shows, a_final}
-use Rattle.model.specs.Session.{parts_of_each, do_make, do_fact, act, step, kept, after}
+use Rattle.model.specs.Session.{parts_of_each, do_make, do_fact, act, step, after}
 use Rattle.model.specs.Theorems.{before_misfit, OrderedAfter, SessionsAreTidy}
-use Rattle.model.proofs.Accepted.{step_accepted, symbol_accepted, make_accepted, fact_accepted, query_accepted, initial_accepted, let_accepted, same_accepted, shows_accepted, final_accepted}
-use Rattle.model.proofs.Names.{Adds, before_or_new, none_named}
+use Rattle.model.proofs.Accepted.{step_accepted, symbol_accepted, make_accepted, fact_accepted, query_accepted, initial_accepted, let_accepted, same_accepted, shows_accepted, final_accepted, holds_after}
+use Rattle.model.proofs.Names.{Adds, nothing_of, before_or_new, none_named}
 use Rattle.model.proofs.Admitting.{assembled_has, assembled_made}
-use Rattle.model.proofs.Keeping.{keep_each_append, keep_present, keep_absent, has_kept, kept_has, has_each_kept, HasOperands, has_parts}
+use Rattle.logic.proofs.Keepings.{keep_each_append, keep_had, keep_new, has_kept, kept_has, last_or_had, has_keep_each, has_each_more, HasOperands, has_parts}
 
 -- ---- one more term
 
@@ -28,21 +28,9 @@ ordered_last us (x ∷ l) t o new ops =
     let e : us ++ (x ∷ l) ≡ us ++ (x ∷ []) ++ l = sym (append_assoc us (x ∷ []) l) in
     (o.0, o.1, ordered_last (us ++ (x ∷ [])) l t o.2 (subst (λ k. has k t ≡ false) e new) (subst (λ k. HasEach k (operands t)) e ops))
 
-has_last : (ts : List Tree) (t u : Tree) → has (ts ++ (t ∷ [])) u ≡ true → (u ≡ t) ⊎ (has ts u ≡ true)
-has_last [] t u h = elim (or_cases (same_tree u t) false h) [ inl e ↦ inl (same_tree_true u t e) | inr e ↦ absurd (false≢true e) ]
-has_last (x ∷ ts) t u h =
-    elim (or_cases (same_tree u x) (has (ts ++ (t ∷ [])) u) h) [
-      | inl e ↦ inr (or_left (same_tree u x) (has ts u) e)
-      | inr e ↦ elim (has_last ts t u e) [ inl i ↦ inl i | inr j ↦ inr (or_right (same_tree u x) (has ts u) j) ]
-    ]
-
 -- what is there once a term is kept was there or is the term
 kept_or_new : (ts : List Tree) (t u : Tree) → has (keep ts t) u ≡ true → (u ≡ t) ⊎ (has ts u ≡ true)
-kept_or_new ts t u = cond_both (has ts t) ts (ts ++ (t ∷ [])) (λ l. has l u ≡ true → (u ≡ t) ⊎ (has ts u ≡ true)) (λ _ h. inr h) (λ _. has_last ts t u)
-
-has_each_more : (ts us l : List Tree) → ((u : Tree) → has ts u ≡ true → has us u ≡ true) → HasEach ts l → HasEach us l
-has_each_more ts us [] more h = tt
-has_each_more ts us (t ∷ l) more h = (more t h.0, has_each_more ts us l more h.1)
+kept_or_new ts t u = cond_both (has ts t) ts (ts ++ (t ∷ [])) (λ l. has l u ≡ true → (u ≡ t) ⊎ (has ts u ≡ true)) (λ _ h. inr h) (λ _. last_or_had ts t u)
 
 -- ---- terms in order, with the operands of each
 
@@ -53,8 +41,8 @@ record Orderly (ts : List Tree) : Type 0 where
 keep_orderly : (ts : List Tree) (t : Tree) → Orderly ts → HasEach ts (operands t) → Orderly (keep ts t)
 keep_orderly ts t o ops = record {
   in_order = elim (cases_Bool (has ts t)) [
-    | inl e ↦ subst (OrderedAfter []) (sym (keep_present ts t e)) o.in_order
-    | inr e ↦ subst (OrderedAfter []) (sym (keep_absent ts t e)) (ordered_last [] ts t o.in_order e ops)
+    | inl e ↦ subst (OrderedAfter []) (sym (keep_had ts t e)) o.in_order
+    | inr e ↦ subst (OrderedAfter []) (sym (keep_new ts t e)) (ordered_last [] ts t o.in_order e ops)
   ];
   with_operands = λ u h. has_each_more ts (keep ts t) (operands u) (has_kept ts t) (elim (kept_or_new ts t u h) [
     | inl e ↦ subst (λ x. HasEach ts (operands x)) (sym e) ops
@@ -79,7 +67,7 @@ parts_kept (binary h t u) ts o =
     let q = parts_kept u (keep_each ts (parts t)) p.orderly in
     let e : keep_each (keep_each ts (parts t)) (parts u) ≡ keep_each ts (parts t ++ parts u) = sym (keep_each_append ts (parts t) (parts u)) in
     head_kept ts (parts t ++ parts u) (binary h t u) (subst Orderly e q.orderly)
-    (subst (λ k. has k t ≡ true) e (has_each_kept (keep_each ts (parts t)) (parts u) t p.there), (subst (λ k. has k u ≡ true) e q.there, tt))
+    (subst (λ k. has k t ≡ true) e (has_keep_each (keep_each ts (parts t)) (parts u) t p.there), (subst (λ k. has k u ≡ true) e q.there, tt))
 
 each_kept : (l : List Formula) (ts : List Tree) → Orderly ts → Orderly (keep_each ts (parts_of_each l))
 each_kept [] ts o = o
@@ -100,12 +88,9 @@ module _ (A : Arithmetic) (L : Limits) (R : Room) where
     made_kept = λ k t h. elim (before_or_new the_tree S.names N x adds k t h) [ inl e ↦ more t (n.made_kept k t e) | inr e ↦ new t e ];
   }
 
-  no_tree : {X : Type 0} (t : Tree) → none ≡ some t → X
-  no_tree t e = absurd (none-ne-some t e)
-
   -- the terms of formulas are kept, and one of them is known
   neat_known : (S : State) (l : List Formula) (q : Option Formula) (b : Option Start) (c : Bool) (φ : Formula) → Neat S → Neat (state (with_result S.names (fact φ)) (keep_each S.terms (parts_of_each l)) q b c)
-  neat_known S l q b c φ n = neat_more S (with_result S.names (fact φ)) (keep_each S.terms (parts_of_each l)) q b c (fact φ) refl n (each_kept l S.terms n.orderly) (has_each_kept S.terms (parts_of_each l)) (λ t e. no_tree t e)
+  neat_known S l q b c φ n = neat_more S (with_result S.names (fact φ)) (keep_each S.terms (parts_of_each l)) q b c (fact φ) refl n (each_kept l S.terms n.orderly) (has_keep_each S.terms (parts_of_each l)) (λ t e. nothing_of t e)
 
   neat_make : (m : Maker) (S S' : State) (c : Command) → Neat S → do_make A L R m S c ≡ done S' → Neat S'
   neat_make m S S' c n e =
@@ -123,7 +108,7 @@ module _ (A : Arithmetic) (L : Limits) (R : Room) where
 
   -- a result that is no term, the terms staying
   neat_plain : (S : State) (N : Names) (q : Option Formula) (b : Option Start) (c : Bool) (x : Result) → Adds S.names x N → the_tree x ≡ none → Neat S → Neat (state N S.terms q b c)
-  neat_plain S N q b c x adds no_term n = neat_more S N S.terms q b c x adds n n.orderly (λ u h. h) (λ t e. no_tree t (sym no_term ∙ e))
+  neat_plain S N q b c x adds no_term n = neat_more S N S.terms q b c x adds n n.orderly (λ u h. h) (λ t e. nothing_of t (sym no_term ∙ e))
 
   neat_act : (h : Action) (S S' : State) (c : Command) → Neat S → act A L R h S c ≡ done S' → Neat S'
   neat_act (a_symbol k) S S' c n e =
@@ -145,21 +130,16 @@ module _ (A : Arithmetic) (L : Limits) (R : Room) where
   neat_act a_shows S S' c n e = subst Neat (sym (shows_accepted A L R S S' c e)) (neat_plain S (with_result S.names nothing) S.query S.start S.closed nothing refl refl n)
   neat_act a_final S S' c n e = subst Neat (sym (final_accepted A L R S S' c e).2) (neat_plain S (with_result S.names nothing) S.query S.start true nothing refl refl n)
 
-  neat_kept : (S : State) (c : Command) (o : Outcome State) → step A L R S c ≡ o → Neat S → Neat (kept S o)
-  neat_kept S c (done S') e n = let (h, head, stage, acts) = step_accepted A L R S S' c e in neat_act h S S' c n acts
-  neat_kept S c (refused r at) e n = n
-
-  neat_after : (cs : List Command) (S : State) → Neat S → Neat (after A L R S cs)
-  neat_after [] S n = n
-  neat_after (c ∷ cs) S n = neat_after cs (kept S (step A L R S c)) (neat_kept S c (step A L R S c) refl n)
+  neat_step : (S S' : State) (c : Command) → Neat S → step A L R S c ≡ done S' → Neat S'
+  neat_step S S' c n e = let (h, head, stage, acts) = step_accepted A L R S S' c e in neat_act h S S' c n acts
 
 neat_fresh : Neat fresh
 neat_fresh = record {
   orderly = record { in_order = tt; with_operands = λ t h. absurd (false≢true h) };
-  made_kept = λ k t h. absurd (none-ne-some t (sym (none_named the_tree k) ∙ h));
+  made_kept = λ k t h. nothing_of t (sym (none_named the_tree k) ∙ h);
 }
 
 pub that_sessions_are_tidy : SessionsAreTidy
 that_sessions_are_tidy A L R cs =
-    let n = neat_after A L R cs fresh neat_fresh in
+    let n = holds_after A L R Neat (neat_step A L R) cs fresh neat_fresh in
     record { in_order = n.orderly.in_order; parts_kept = has_parts (after A L R fresh cs).terms n.orderly.with_operands; made_kept = n.made_kept }

@@ -1,8 +1,7 @@
 -- Worked examples of a session, as tests that compute, with those of the rules; and the accepted one as a refutation written out.
 use Rattle.command.specs.declared.command.Command.{Command}
-use Rattle.command.specs.declared.command.Content.TheVariants.{Command as command}
 use Rattle.command.specs.declared.command.Item.{Item}
-use Rattle.std.specs.Prelude.{◌≡◌, ℕ, suc, Bool, true, false, cond, not, ◌&&◌, List, [], ◌∷◌, ◌++◌, pos, negsuc, ◌==◌}
+use Rattle.std.specs.Prelude.{◌≡◌, ℕ, suc, Bool, true, false, cond, not, ◌&&◌, List, [], ◌∷◌, ◌++◌, pos, negsuc, Some, ◌==◌}
 use Rattle.std.proofs.Math.Option.{Option, none, some}
 use Rattle.logic.specs.Syntax.{Formula, Proof, nil, atom, and, neg, same, known, from, from_both, and1, and2, negelim}
 use Rattle.logic.specs.Syntax as Syntax
@@ -26,7 +25,7 @@ use Rattle.model.specs.Writer.{Refutation, IsRefutation, write_out}
 -- one to a line
 abbrev lines : ℕ → List Command → List Item
 lines n [] = []
-lines n (c ∷ l) = record { line = n; content = command c } ∷ lines (suc n) l
+lines n (c ∷ l) = record { line = n; content = Some c } ∷ lines (suc n) l
 
 abbrev pub room : Room
 room = record { terms = 1_024; symbols = 256; commands = 2_000 }

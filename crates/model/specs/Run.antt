@@ -1,8 +1,8 @@
 -- The run: the query's items, then the proof's, up to the first refusal or acceptance.
-use Rattle.command.specs.declared.command.Content.{Content}
-use Rattle.command.specs.declared.command.Content.TheVariants.{Command as command, Spoiled as spoiled}
+use Rattle.command.specs.declared.command.Command.{Command}
 use Rattle.command.specs.declared.command.Item.{Item}
-use Rattle.std.specs.Prelude.{ℕ, suc, Bool, true, false, List, [], ◌∷◌}
+use Rattle.std.specs.Prelude.{ℕ, suc, Bool, true, false, List, [], ◌∷◌, Some, None}
+use Rattle.std.specs.declared.option.Option as Rust
 use Rattle.std.proofs.Math.Option.{Option, none, some}
 use Rattle.logic.specs.Syntax.{Formula}
 use Rattle.logic.specs.Arithmetic.{Arithmetic}
@@ -50,9 +50,9 @@ conclude_proof (stopped S v) = record { state = S; verdict = v }
 conclude_proof (through S line) = record { state = S; verdict = refuses 2 line unfinished 0 }
 
 module _ (A : Arithmetic) (L : Limits) (R : Room) where
-  abbrev pub read_content : ℕ → State → ℕ → (State → Reading) → Content → Reading
-  read_content file S line rest (command c) = read_answer file S line rest (step A L R S c)
-  read_content file S line rest spoiled = stopped S (refuses file line unknown 0)
+  abbrev pub read_content : ℕ → State → ℕ → (State → Reading) → Rust.Option Command → Reading
+  read_content file S line rest (Some c) = read_answer file S line rest (step A L R S c)
+  read_content file S line rest None = stopped S (refuses file line unknown 0)
 
   -- a file from the state on, `next` being the line after the last
   abbrev pub read : ℕ → State → ℕ → List Item → Reading

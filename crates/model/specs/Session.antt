@@ -15,7 +15,8 @@ use Rattle.model.specs.Refusal.{Refusal, unknown, untimely, unnamed, miscounted,
 use Rattle.model.specs.Refusal.{Outcome, done, refused, ◌>>=◌, ◌>>◌, require, require_at, need}
 use Rattle.model.specs.Limits.{Limits, Room, granted, within}
 use Rattle.model.specs.State.{Result, term, fact, nothing, Names, with_result, with_symbol, next_number, Start, State, state, fresh}
-use Rattle.model.specs.State.{formula_at, plan_at, proof_at, known_at, thing_arity, keep, keep_each}
+use Rattle.model.specs.State.{formula_at, plan_at, proof_at, known_at, thing_arity}
+use Rattle.logic.specs.Keeping.{keep, keep_each}
 use Rattle.model.specs.Commands.{Maker, FactHead, Action, a_symbol, a_term, a_deduction, a_fact, a_query, an_initial, a_let, a_same, a_shows, a_final, action_of, made, named_fact}
 use Rattle.model.specs.Tests.{full, literal_admitted, closed_within, each, closed_fact, new_symbols}
 

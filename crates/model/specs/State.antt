@@ -1,9 +1,9 @@
 -- The state of a session, as the accepted commands left it, and what their numbers name.
-use Rattle.std.specs.Prelude.{◌≡◌, ℕ, zero, suc, Bool, true, false, cond, ◌||◌, List, [], ◌∷◌, ◌++◌, length}
+use Rattle.std.specs.Prelude.{ℕ, zero, suc, Bool, false, List, [], ◌∷◌, ◌++◌, length}
 use Rattle.std.proofs.Math.Option.{Option, none, some}
 use Rattle.std.proofs.Math.ListN.{get_elem?}
 use Rattle.logic.specs.Syntax.{Number, Formula, Plan, Proof}
-use Rattle.logic.specs.Tree.{Kind, Tree, same_tree, same_kind, thing}
+use Rattle.logic.specs.Tree.{Kind, Tree, same_kind, thing}
 use Rattle.logic.specs.Terms.{Term, tree_term, as_number, as_formula, as_plan, as_proof}
 use Rattle.logic.specs.Rules.{◌>>=◌, when}
 
@@ -111,21 +111,3 @@ state N ts q b c = record { names = N; terms = ts; query = q; start = b; closed 
 
 abbrev pub fresh : State
 fresh = state no_names [] none none false
-
--- ---- terms kept, each once
-
-abbrev pub has : List Tree → Tree → Bool
-has [] t = false
-has (u ∷ ts) t = same_tree t u || has ts t
-
-abbrev pub keep : List Tree → Tree → List Tree
-keep ts t = cond (has ts t) ts (ts ++ (t ∷ []))
-
-abbrev pub keep_each : List Tree → List Tree → List Tree
-keep_each ts [] = ts
-keep_each ts (t ∷ l) = keep_each (keep ts t) l
-
--- the first list has each of the second
-abbrev pub HasEach : List Tree → List Tree → Type 0
-HasEach ts [] = Unit {0}
-HasEach ts (t ∷ l) = (has ts t ≡ true) × HasEach ts l

@@ -1,9 +1,8 @@
 -- What is proved of a session and of a run.
 use Rattle.command.specs.declared.command.Command.{Command}
-use Rattle.command.specs.declared.command.Content.{Content}
-use Rattle.command.specs.declared.command.Content.TheVariants.{Command as command, Spoiled as spoiled}
 use Rattle.command.specs.declared.command.Item.{Item}
-use Rattle.std.specs.Prelude.{◌≡◌, ℕ, ◌≤◌, true, false, List, [], ◌∷◌, ◌++◌, length}
+use Rattle.std.specs.Prelude.{◌≡◌, ℕ, ◌≤◌, true, false, List, [], ◌∷◌, ◌++◌, length, Some, None}
+use Rattle.std.specs.declared.option.Option as Rust
 use Rattle.std.proofs.Math.Option.{Option, none, some}
 use Rattle.logic.specs.Syntax.{Formula, Plan, Proof}
 use Rattle.logic.specs.Tree.{Tree, proof_tree, open_hypotheses, operands, parts}
@@ -14,7 +13,8 @@ use Rattle.logic.specs.Plans.{Turns, walk, misfit, symbols, member}
 use Rattle.logic.specs.Positions.{conclusions, misfit_at}
 use Rattle.model.specs.Refusal.{Refusal, unfounded, unfit, positioned, done, refused}
 use Rattle.model.specs.Limits.{Limits, Room}
-use Rattle.model.specs.State.{Start, State, fresh, next_number, known_at, tree_at, plan_at, proof_at, thing_arity, has, HasEach, keep_each}
+use Rattle.model.specs.State.{Start, State, fresh, next_number, known_at, tree_at, plan_at, proof_at, thing_arity}
+use Rattle.logic.specs.Keeping.{has, HasEach, keep_each}
 use Rattle.model.specs.Commands.{an_initial, a_let}
 use Rattle.model.specs.Tests.{new_symbols}
 use Rattle.model.specs.Session.{stage_of, allowed, step, after, parts_of_each, each_within}
@@ -66,9 +66,9 @@ RefutedQueriesHoldNowhere = Always ClosedByRefutation
 
 -- ---- runs
 
-abbrev pub command_before : Content → List Command → List Command
-command_before (command c) cs = c ∷ cs
-command_before spoiled cs = cs
+abbrev pub command_before : Rust.Option Command → List Command → List Command
+command_before (Some c) cs = c ∷ cs
+command_before None cs = cs
 
 abbrev pub commands_in : List Item → List Command
 commands_in [] = []

@@ -14,7 +14,8 @@ use Rattle.logic.specs.Facts.{Fact, States, sum, atmost, cancel, swap, eqleq, le
 use Rattle.logic.specs.Plans.{Turns, symbols, member, distinct}
 use Rattle.logic.specs.Closed.{closed}
 use Rattle.model.specs.Limits.{Limits, Room}
-use Rattle.model.specs.State.{Symbol, Result, fact, nothing, Names, no_names, with_result, with_symbol, next_number, fresh, the_tree, thing_arity, keep_each}
+use Rattle.model.specs.State.{Symbol, Result, fact, nothing, Names, no_names, with_result, with_symbol, next_number, fresh, the_tree, thing_arity}
+use Rattle.logic.specs.Keeping.{keep_each}
 use Rattle.model.specs.Commands.{plain, literal_of}
 use Rattle.model.specs.Tests.{full, literal_admitted, closed_within, fact_operands, each, closed_fact, appears}
 use Rattle.model.specs.Run.{accepts, run}

@@ -1,8 +1,7 @@
 -- A refutation written out as the lines of two files, and when it fits.
 use Rattle.command.specs.declared.command.Command.{Command}
-use Rattle.command.specs.declared.command.Content.TheVariants.{Command as command}
 use Rattle.command.specs.declared.command.Item.{Item}
-use Rattle.std.specs.Prelude.{◌≡◌, ℕ, suc, ◌+◌, ◌≤◌, true, false, List, [], ◌∷◌, ◌++◌, length, nat_le}
+use Rattle.std.specs.Prelude.{◌≡◌, ℕ, suc, ◌+◌, ◌≤◌, true, false, List, [], ◌∷◌, ◌++◌, length, Some, nat_le}
 use Rattle.std.proofs.Math.Option.{some}
 use Rattle.logic.specs.Syntax.{Formula, Plan, Proof, falsity}
 use Rattle.logic.specs.Tree.{Tree, formula_tree, proof_tree, open_hypotheses, parts}
@@ -13,7 +12,8 @@ use Rattle.logic.specs.Plans.{Turns, Walked, misfit, yields, walk, symbols, memb
 use Rattle.logic.specs.Positions.{conclusions}
 use Rattle.logic.specs.Closed.{closed}
 use Rattle.model.specs.Limits.{Limits, Room, within}
-use Rattle.model.specs.State.{Symbol, term, fact, nothing, Names, no_names, with_result, with_symbol, fresh, formula_at, plan_at, proof_at, known_at, thing_arity, keep_each}
+use Rattle.model.specs.State.{Symbol, term, fact, nothing, Names, no_names, with_result, with_symbol, fresh, formula_at, plan_at, proof_at, known_at, thing_arity}
+use Rattle.logic.specs.Keeping.{keep_each}
 use Rattle.model.specs.Commands.{Maker, FactHead, a_symbol, a_term, a_deduction, a_fact, a_query, an_initial, a_let, a_final, action_of, made, named_fact}
 use Rattle.model.specs.Tests.{full, literal_admitted, closed_within, closed_fact, appears}
 use Rattle.model.specs.Session.{parts_of_each, each_within}
@@ -43,10 +43,10 @@ pub record Last : Type 0 where
 
 abbrev pub items : List Line → List Item
 items [] = []
-items (e ∷ l) = record { line = e.number; content = command e.command } ∷ items l
+items (e ∷ l) = record { line = e.number; content = Some e.command } ∷ items l
 
 abbrev pub last_item : Last → List Item
-last_item e = record { line = e.number; content = command e.command } ∷ []
+last_item e = record { line = e.number; content = Some e.command } ∷ []
 
 -- ---- what the lines written so far give names to
 

@@ -8,92 +8,76 @@ ghost use Rattle.model.specs.Writer.{RefutationsCanBeWrittenOut};
 ghost use Rattle.model.specs.Written.{RefutationsAreAccepted};
 
 // Whatever commands a fresh session was given, every known formula holds in each finite world where the initial formula holds.
-pub fn known_formulas_hold() -> u8
+#[tactic(auto, using(crate::proofs::Soundness::that_known_formulas_hold))]
+pub fn known_formulas_hold()
     ensures { KnownFormulasHold }
-{
-    0
-}
+{}
 
 // Once `initial` is accepted, each finite world of the query can be re-read at the plan's Skolem symbols so that the initial formula holds.
-pub fn initial_formulas_hold_after_rereading() -> u8
+#[tactic(auto, using(crate::proofs::Soundness::that_initial_formulas_hold_after_rereading))]
+pub fn initial_formulas_hold_after_rereading()
     ensures { InitialFormulasHoldAfterRereading }
-{
-    0
-}
+{}
 
 // Once a `final` is accepted, the query holds in no finite world.
-pub fn refuted_queries_hold_nowhere() -> u8
+#[tactic(auto, using(crate::proofs::Soundness::that_refuted_queries_hold_nowhere))]
+pub fn refuted_queries_hold_nowhere()
     ensures { RefutedQueriesHoldNowhere }
-{
-    0
-}
+{}
 
 // A run's state is that of the commands that it took, one after the other, and it accepts only with a session that a `final` closed.
-pub fn runs_are_folds() -> u8
+#[tactic(auto, using(crate::proofs::Runs::that_runs_are_folds))]
+pub fn runs_are_folds()
     ensures { RunsAreFolds }
-{
-    0
-}
+{}
 
 // What a run accepts holds in no finite world.
-pub fn accepted_queries_hold_nowhere() -> u8
+#[tactic(auto, using(crate::proofs::Runs::that_accepted_queries_hold_nowhere))]
+pub fn accepted_queries_hold_nowhere()
     ensures { AcceptedQueriesHoldNowhere }
-{
-    0
-}
+{}
 
 // Every refutation written out that fits is accepted at the line of `final`.
-pub fn refutations_are_accepted() -> u8
+#[tactic(auto, using(crate::proofs::Accepting::that_refutations_are_accepted))]
+pub fn refutations_are_accepted()
     ensures { RefutationsAreAccepted }
-{
-    0
-}
+{}
 
 // Every refutation given as trees is written out by the writer, each distinct term once, and is accepted if that fits.
-pub fn refutations_can_be_written_out() -> u8
+pub fn refutations_can_be_written_out()
     ensures { RefutationsCanBeWrittenOut }
-{
-    0
-}
+{}
 
 // `let` and `initial` make known exactly what the rules give, and are refused for their rule exactly where the rules give nothing.
-pub fn let_and_initial_are_exact() -> u8
+pub fn let_and_initial_are_exact()
     ensures { LetAndInitialAreExact }
-{
-    0
-}
+{}
 
 // Refused commands change nothing, and name a position only where one is to be named.
-pub fn refusals_are_plain() -> u8
+#[tactic(auto, using(crate::proofs::Refusing::that_refusals_are_plain))]
+pub fn refusals_are_plain()
     ensures { RefusalsArePlain }
-{
-    0
-}
+{}
 
 // The terms kept stand once each, operands before heads, with all their parts.
-pub fn sessions_are_tidy() -> u8
+pub fn sessions_are_tidy()
     ensures { SessionsAreTidy }
-{
-    0
-}
+{}
 
 // The terms that a session's results hold are typed, proper and within the limits, and what it knows and its query are closed.
-pub fn sessions_stand() -> u8
+#[tactic(auto, using(crate::proofs::Standing::standing_after))]
+pub fn sessions_stand()
     ensures { SessionsStand }
-{
-    0
-}
+{}
 
 // The worked examples, of the rules and of sessions, come out as they are written.
-pub fn examples_come_out() -> u8
+#[tactic(auto, using(crate::proofs::Examples::that_examples_come_out))]
+pub fn examples_come_out()
     ensures { ExamplesComeOut }
-{
-    0
-}
+{}
 
 // The accepted example is a refutation written out, fits, and is what the writer makes of its trees.
-pub fn accepted_example_is_a_refutation() -> u8
+#[tactic(auto, using(crate::proofs::Examples::that_example_stands))]
+pub fn accepted_example_is_a_refutation()
     ensures { ExampleStands }
-{
-    0
-}
+{}

@@ -1,6 +1,5 @@
 -- What is read off two bounds is what the fact of their sum states.
-use Rattle.std.proofs.Common.{◌≡◌, ℕ, Bool, true, false, cond, ◌&&◌, ℤ, Some, None, Option, sym, refl, ap, ◌∙◌, subst, ap₂, inl, inr, arith}
-use mathlib.Core.Bool.{false≢true}
+use Rattle.std.proofs.Common.{◌≡◌, Bool, true, false, cond, ◌&&◌, ℤ, Some, None, Option, sym, refl, ap, ◌∙◌, subst, ap₂, inl, inr}
 use Rattle.std.proofs.lemmas.Bool.{cases_Bool, and_parts, cond-true, cond-false}
 use Rattle.logic.specs.Syntax.{Number, Formula, lit, add, minus, measure, equal, at_most, implies, leq, same}
 use Rattle.logic.specs.Syntax as syntax
@@ -15,33 +14,12 @@ use Rattle.model.specs.Session.{stated}
 use Rattle.arithmetic.specs.Literals.{literal_sum}
 use Rattle.rules.specs.declared.refusal.Reason.{Reason}
 use Rattle.rules.specs.Refusals.{refusal}
-use Rattle.rules.specs.Shapes.{Bounded, bound, no_bound, bounded, Added, adds, refuses, is_minus, adds_admitted, adds_bounds, added}
+use Rattle.rules.specs.Shapes.{Added, Bounded, bound, no_bound, bounded, adds, refuses, is_minus, adds_admitted, adds_bounds, added}
 use Rattle.rules.specs.Stating.{pair_tree}
-use Rattle.rules.proofs.Flat.{Flat, relate_flat, implies_flat}
 use Rattle.rules.proofs.Literals.{sum_admitted, sum_unadmitted}
 
--- ---- constructors apart
-
-abbrev IsBound : Bounded → Type 0
-IsBound (bound a b n) = Unit {0}
-IsBound no_bound = ⊥
-
-not_bound : {X : Type 0} (a b : Tree) (n : ℤ) → no_bound ≡ bound a b n → X
-not_bound a b n e = absurd (subst IsBound (sym e) tt)
-
-abbrev reason_or : Reason → Added → Reason
-reason_or e (adds b c n) = e
-reason_or e (refuses x) = x
-
 same_reason : (d e : Reason) → refuses d ≡ refuses e → d ≡ e
-same_reason d e h = ap (reason_or e) h
-
-abbrev Adds : Added → Type 0
-Adds (adds b c n) = Unit {0}
-Adds (refuses e) = ⊥
-
-not_both : {X : Type 0} (b c : Tree) (n : ℤ) (e : Reason) → adds b c n ≡ refuses e → X
-not_both b c n e h = absurd (subst Adds h tt)
+same_reason d e h = cc
 
 -- ---- a formula that is a bound
 
@@ -54,36 +32,36 @@ record Bounds (φ : Formula) (a b : Tree) (n : ℤ) : Type 0 where
 
 limit_typed : (x y u : Number) (a b : Tree) (n : ℤ) → bounded (formula_tree (leq (add x y) u)) ≡ bound a b n → Bounds (leq (add x y) u) a b n
 limit_typed x y (lit m) a b n h = record { left = x; right = y; formula_is = cc; left_is = cc; right_is = cc }
-limit_typed x y (add v w) a b n h = not_bound a b n h
-limit_typed x y (minus v) a b n h = not_bound a b n h
-limit_typed x y (measure s l) a b n h = not_bound a b n h
+limit_typed x y (add v w) a b n h = absurd cc
+limit_typed x y (minus v) a b n h = absurd cc
+limit_typed x y (measure s l) a b n h = absurd cc
 
 relation_typed : (t u : Number) (a b : Tree) (n : ℤ) → bounded (formula_tree (leq t u)) ≡ bound a b n → Bounds (leq t u) a b n
-relation_typed (lit m) u a b n h = not_bound a b n h
+relation_typed (lit m) u a b n h = absurd cc
 relation_typed (add x y) u a b n h = limit_typed x y u a b n h
-relation_typed (minus x) u a b n h = not_bound a b n h
-relation_typed (measure s l) u a b n h = not_bound a b n h
+relation_typed (minus x) u a b n h = absurd cc
+relation_typed (measure s l) u a b n h = absurd cc
 
 bound_typed : (φ : Formula) (a b : Tree) (n : ℤ) → bounded (formula_tree φ) ≡ bound a b n → Bounds φ a b n
-bound_typed syntax.falsity a b n h = not_bound a b n h
-bound_typed (syntax.connect c φ ψ) a b n h = not_bound a b n h
-bound_typed (syntax.neg φ) a b n h = not_bound a b n h
-bound_typed (syntax.eq_things t u) a b n h = not_bound a b n h
-bound_typed (syntax.relate equal t u) a b n h = not_bound a b n h
+bound_typed syntax.falsity a b n h = absurd cc
+bound_typed (syntax.connect c φ ψ) a b n h = absurd cc
+bound_typed (syntax.neg φ) a b n h = absurd cc
+bound_typed (syntax.eq_things t u) a b n h = absurd cc
+bound_typed (syntax.relate equal t u) a b n h = absurd cc
 bound_typed (syntax.relate at_most t u) a b n h = relation_typed t u a b n h
-bound_typed (syntax.atom s l) a b n h = not_bound a b n h
-bound_typed (syntax.forall φ) a b n h = not_bound a b n h
+bound_typed (syntax.atom s l) a b n h = absurd cc
+bound_typed (syntax.forall φ) a b n h = absurd cc
 
 minus_is : (t a : Tree) → is_minus t a ≡ true → t ≡ unary Unary.minus a
-minus_is (leaf x) a h = absurd (false≢true h)
-minus_is (unary (Unary.application k s) t) a h = absurd (false≢true h)
+minus_is (leaf x) a h = absurd cc
+minus_is (unary (Unary.application k s) t) a h = absurd cc
 minus_is (unary Unary.minus t) a h = ap (unary Unary.minus) (same_tree_true t a h)
-minus_is (unary Unary.neg t) a h = absurd (false≢true h)
-minus_is (unary Unary.forall t) a h = absurd (false≢true h)
-minus_is (unary (Unary.step s) t) a h = absurd (false≢true h)
-minus_is (unary Unary.eqrefl t) a h = absurd (false≢true h)
-minus_is (unary (Unary.from r) t) a h = absurd (false≢true h)
-minus_is (binary g t u) a h = absurd (false≢true h)
+minus_is (unary Unary.neg t) a h = absurd cc
+minus_is (unary Unary.forall t) a h = absurd cc
+minus_is (unary (Unary.step s) t) a h = absurd cc
+minus_is (unary Unary.eqrefl t) a h = absurd cc
+minus_is (unary (Unary.from r) t) a h = absurd cc
+minus_is (binary g t u) a h = absurd cc
 
 number_injective : (a b : Number) → number_tree a ≡ number_tree b → a ≡ b
 number_injective a b e = let h = tree_injective (of_number a) (of_number b) e in cc
@@ -107,21 +85,13 @@ module _ (A : Arithmetic) where
       cond-true A.carries _ _ carries
       ∙ cond-true (are_bounds (leq (add a b) (lit m)) (leq (add (minus a) c) (lit n)) m n) _ _ (ap₂ ◌&&◌ (same_refl (leq (add a b) (lit m))) (same_refl (leq (add (minus a) c) (lit n))))
 
-  sum_flat : (a b c : Number) (m n : ℤ) → Flat (formula_tree (sum_formula a b c m n))
-  sum_flat a b c m n =
-      let x = leq (add a b) (lit m) in
-      let y = leq (add (minus a) c) (lit n) in
-      let w = leq (add b c) (lit (A.sum m n)) in
-      implies_flat x (implies y w) (relate_flat at_most (add a b) (lit m))
-      (implies_flat y w (relate_flat at_most (add (minus a) c) (lit n)) (relate_flat at_most (add b c) (lit (A.sum m n))))
-
   -- two bounds that fit are not refused as unfounded
   fitting : (a b c : Number) (m n : ℤ) → adds_bounds A (bounded (formula_tree (leq (add a b) (lit m)))) (bounded (formula_tree (leq (add (minus a) c) (lit n)))) ≡ adds_admitted (number_tree b) (number_tree c) (literal_sum A m n)
   fitting a b c m n = cond-true _ _ _ (same_tree_refl (number_tree a))
 
   admitted_or_not : (b c : Tree) (o : Option ℤ) → adds_admitted b c o ≡ refuses Reason.Unfounded → ⊥
-  admitted_or_not b c None h = let e = same_reason _ _ h in let z : ◌≡◌ {A = ℕ} 0 1 = cc in omega arith
-  admitted_or_not b c (Some n) h = not_both b c n Reason.Unfounded h
+  admitted_or_not b c None h = absurd cc
+  admitted_or_not b c (Some n) h = absurd cc
 
   module _ (φ ψ : Formula) (carries : A.carries ≡ true) where
     not_bounds : adds_bounds A (bounded (formula_tree φ)) (bounded (formula_tree ψ)) ≡ refuses Reason.Unfounded → (m n : ℤ) (b : Bool) → are_bounds φ ψ m n ≡ b → b ≡ false
@@ -183,7 +153,6 @@ module _ (A : Arithmetic) where
       record StatesSum (b c : Tree) (k : ℤ) : Type 0 where
         pub sum_states : Formula
         pub stated_as : state A (pair φ ψ) ≡ formula sum_states
-        pub flat : Flat (formula_tree sum_states)
         pub tree_is : formula_tree sum_states ≡ pair_tree (formula_tree φ) (formula_tree ψ) b c k
 
       admitted_states : (a b z c : Tree) (m n k : ℤ) → Fit a b z c m n → Some k ≡ literal_sum A m n → StatesSum b c k
@@ -192,7 +161,6 @@ module _ (A : Arithmetic) where
           record {
             sum_states = sum_formula f.summand f.left f.right m n;
             stated_as = fit_state a b z c m n f ∙ cond-true _ _ _ s.0;
-            flat = sum_flat f.summand f.left f.right m n;
             tree_is =
                 ap₂ (λ p q. pair_tree (formula_tree p) (formula_tree q) (number_tree f.left) (number_tree f.right) (A.sum m n)) (sym f.premise_is) (sym f.other_is)
                 ∙ ap₂ (λ p q. pair_tree (formula_tree φ) (formula_tree ψ) p q (A.sum m n)) f.left_is f.right_is ∙ ap (pair_tree (formula_tree φ) (formula_tree ψ) b c) (sym s.1);
@@ -208,7 +176,7 @@ module _ (A : Arithmetic) where
 
       admission_refused : (a b z c : Tree) (m n : ℤ) → Fit a b z c m n → (o : Option ℤ) → o ≡ literal_sum A m n → (e : Reason) → adds_admitted b c o ≡ refuses e → RefusedBy e
       admission_refused a b z c m n f None i e h = subst RefusedBy (same_reason _ _ h) (ap stated (unadmitted_states a b z c m n f i))
-      admission_refused a b z c m n f (Some k) i e h = not_both b c k e h
+      admission_refused a b z c m n f (Some k) i e h = absurd cc
 
       refused_carried : (x y : Bounded) → bounded (formula_tree φ) ≡ x → bounded (formula_tree ψ) ≡ y → (e : Reason) → adds_bounds A x y ≡ refuses e → RefusedBy e
       refused_carried no_bound y ex ey e h = unfounded_refused e (ap₂ (adds_bounds A) ex ey) h
@@ -221,7 +189,7 @@ module _ (A : Arithmetic) where
       -- ---- sums, where they are carried
 
       admission_states : (a b z c : Tree) (m n : ℤ) → Fit a b z c m n → (o : Option ℤ) → o ≡ literal_sum A m n → (p q : Tree) (k : ℤ) → adds_admitted b c o ≡ adds p q k → StatesSum p q k
-      admission_states a b z c m n f None i p q k h = not_both p q k Reason.Unadmitted (sym h)
+      admission_states a b z c m n f None i p q k h = absurd cc
       admission_states a b z c m n f (Some j) i p q k h =
           let eb : b ≡ p = cc in
           let ec : c ≡ q = cc in
@@ -229,31 +197,34 @@ module _ (A : Arithmetic) where
           subst (λ t. StatesSum t q k) eb (subst (λ t. StatesSum b t k) ec (admitted_states a b z c m n k f ek))
 
       states_carried : (x y : Bounded) → bounded (formula_tree φ) ≡ x → bounded (formula_tree ψ) ≡ y → (p q : Tree) (k : ℤ) → adds_bounds A x y ≡ adds p q k → StatesSum p q k
-      states_carried no_bound y ex ey p q k h = not_both p q k Reason.Unfounded (sym h)
-      states_carried (bound a b m) no_bound ex ey p q k h = not_both p q k Reason.Unfounded (sym h)
+      states_carried no_bound y ex ey p q k h = absurd cc
+      states_carried (bound a b m) no_bound ex ey p q k h = absurd cc
       states_carried (bound a b m) (bound z c n) ex ey p q k h = elim (cases_Bool (is_minus z a)) [
         | inl t ↦ admission_states a b z c m n (fits a b z c m n ex ey t) (literal_sum A m n) refl p q k (sym (cond-true (is_minus z a) _ _ t) ∙ h)
-        | inr t ↦ not_both p q k Reason.Unfounded (sym h ∙ cond-false (is_minus z a) (adds_admitted b c (literal_sum A m n)) (refuses Reason.Unfounded) t)
+        | inr t ↦ absurd (cc (sym h ∙ cond-false (is_minus z a) (adds_admitted b c (literal_sum A m n)) (refuses Reason.Unfounded) t))
       ]
 
 -- ---- what is read of two bounds whose literals are admitted
 
-module _ (A : Arithmetic) (φ ψ : Formula) (pass : literals_pass A.admits (formula_tree φ) ≡ true) (pass' : literals_pass A.admits (formula_tree ψ) ≡ true) where
-  -- a refusal is the fact's
-  pub pair_refused : (e : Reason) → added A (bounded (formula_tree φ)) (bounded (formula_tree ψ)) ≡ refuses e → stated (state A (pair φ ψ)) ≡ refused (refusal e) 0
-  pair_refused e h = elim (cases_Bool A.carries) [
-    | inl c ↦ refused_carried A φ ψ c pass pass' (bounded (formula_tree φ)) (bounded (formula_tree ψ)) refl refl e (sym (cond-true A.carries _ _ c) ∙ h)
-    | inr c ↦
-        let i = cond-false A.carries (adds_bounds A (bounded (formula_tree φ)) (bounded (formula_tree ψ))) (refuses Reason.Uncarried) c in
-        subst (λ x. stated (state A (pair φ ψ)) ≡ refused (refusal x) 0) (same_reason _ _ (sym i ∙ h)) (ap stated (cond-false A.carries _ _ c))
-  ]
+module _ (A : Arithmetic) (φ ψ : Formula) {s t : Tree} (e : s ≡ formula_tree φ) (f : t ≡ formula_tree ψ) where
+  module _ (pass : literals_pass A.admits (formula_tree φ) ≡ true) (pass' : literals_pass A.admits (formula_tree ψ) ≡ true) where
+    read : {r : Added} → r ≡ added A (bounded s) (bounded t) → r ≡ added A (bounded (formula_tree φ)) (bounded (formula_tree ψ))
+    read {r} h = subst (λ x. r ≡ added A (bounded (formula_tree φ)) (bounded x)) f (subst (λ x. r ≡ added A (bounded x) (bounded t)) e h)
 
-  -- and a sum the formula that it states
-  pub pair_states : (b c : Tree) (k : ℤ) → added A (bounded (formula_tree φ)) (bounded (formula_tree ψ)) ≡ adds b c k
-      → (χ : Formula) × (state A (pair φ ψ) ≡ formula χ) × Flat (formula_tree χ) × (formula_tree χ ≡ pair_tree (formula_tree φ) (formula_tree ψ) b c k)
-  pair_states b c k h = elim (cases_Bool A.carries) [
-    | inl t ↦
-        let s = states_carried A φ ψ t pass pass' (bounded (formula_tree φ)) (bounded (formula_tree ψ)) refl refl b c k (sym (cond-true A.carries _ _ t) ∙ h) in
-        (s.sum_states, s.stated_as, s.flat, s.tree_is)
-    | inr t ↦ not_both b c k Reason.Uncarried (sym h ∙ cond-false A.carries (adds_bounds A (bounded (formula_tree φ)) (bounded (formula_tree ψ))) (refuses Reason.Uncarried) t)
-  ]
+    -- a refusal is the fact's
+    pub pair_refused : (d : Reason) → refuses d ≡ added A (bounded s) (bounded t) → stated (state A (pair φ ψ)) ≡ refused (refusal d) 0
+    pair_refused d h = elim (cases_Bool A.carries) [
+      | inl c ↦ refused_carried A φ ψ c pass pass' (bounded (formula_tree φ)) (bounded (formula_tree ψ)) refl refl d (sym (read h ∙ cond-true A.carries _ _ c))
+      | inr c ↦
+          let i = cond-false A.carries (adds_bounds A (bounded (formula_tree φ)) (bounded (formula_tree ψ))) (refuses Reason.Uncarried) c in
+          subst (λ x. stated (state A (pair φ ψ)) ≡ refused (refusal x) 0) (same_reason _ _ (sym (read h ∙ i))) (ap stated (cond-false A.carries _ _ c))
+    ]
+
+    -- and a sum the formula that it states
+    pub pair_states : (b c : Tree) (k : ℤ) → adds b c k ≡ added A (bounded s) (bounded t) → (χ : Formula) × (state A (pair φ ψ) ≡ formula χ) × (formula_tree χ ≡ pair_tree (formula_tree φ) (formula_tree ψ) b c k)
+    pair_states b c k h = elim (cases_Bool A.carries) [
+      | inl y ↦
+          let z = states_carried A φ ψ y pass pass' (bounded (formula_tree φ)) (bounded (formula_tree ψ)) refl refl b c k (sym (read h ∙ cond-true A.carries _ _ y)) in
+          (z.sum_states, z.stated_as, z.tree_is)
+      | inr y ↦ absurd (cc (read h ∙ cond-false A.carries (adds_bounds A (bounded (formula_tree φ)) (bounded (formula_tree ψ))) (refuses Reason.Uncarried) y))
+    ]

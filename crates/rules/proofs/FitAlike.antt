@@ -1,13 +1,14 @@
 -- Putting a thing for a variable leaves a formula's shape, so a plan's fit is decided on the formula as it stands.
-use Rattle.std.proofs.Common.{◌≡◌, ℕ, suc, Bool, true, false, ◌&&◌, sym, refl, ap, ◌∙◌, ap₂}
+use Rattle.std.proofs.Common.{◌≡◌, ℕ, suc, ◌&&◌, sym, refl, ap, ◌∙◌, ap₂}
 use mathlib.Core.Bool.{decide}
-use mathlib.Core.Option.{Option, none, some}
+use mathlib.Core.Option.{Option, none, some, map}
 use Rattle.logic.specs.Syntax.{Thing, Formula, Connective, OneSided, TwoSided, Plan, implication, conjunction, disjunction, falsity, connect, neg, eq_things, relate, atom, forall, same}
 use Rattle.logic.specs.Syntax.{id, step, fork, skip, skol, recnn, recand, recor, recnor, recnand, apply}
 use Rattle.logic.specs.Substitution.{put, raise}
 use Rattle.logic.specs.Rules.{when, left, right}
 use Rattle.logic.specs.Plans.{Walked, misfit, yields, walk, inner, two_inner, takes, inner_scope, scope, around, around_both, if_fits, rebuilt, rejoined}
 use Rattle.logic.proofs.RulesAre.{same_refl}
+use Rattle.rules.proofs.Whens.{mapped_when}
 use Rattle.rules.specs.Fitting.{skeleton, Fit, fit_of, under_head, under_fork, if_some, met_by, plan_fit}
 
 -- putting a thing for a variable leaves the shape
@@ -162,15 +163,6 @@ neg_connect_alike disjunction (forall φ) = refl
 
 -- ---- what a sub-plan meets, by shape
 
-abbrev mapped : {A B : Type 0} → (A → B) → Option A → Option B
-mapped f none = none
-mapped f (some x) = some (f x)
-
-when_mapped : {A B : Type 0} (f : A → B) (b : Bool) (x : A) → mapped f (when b x) ≡ when b (f x)
-unfolding when
-when_mapped f true x = refl
-when_mapped f false x = refl
-
 left_left : (χ : Formula) → skeleton (left (left χ)) ≡ left (left (skeleton χ))
 left_left χ = left_skeleton (left χ) ∙ ap left (left_skeleton χ)
 
@@ -180,20 +172,20 @@ right_left χ = right_skeleton (left χ) ∙ ap right (left_skeleton χ)
 abbrev both : Formula × Formula → Formula × Formula
 both c = (skeleton c.0, skeleton c.1)
 
-two_skeleton : (h : TwoSided) (χ : Formula) → mapped both (two_inner h χ) ≡ two_inner h (skeleton χ)
-two_skeleton recand χ = when_mapped both _ _ ∙ ap₂ when (connect_alike conjunction χ) (ap₂ (λ x y. (x, y)) (left_skeleton χ) (right_skeleton χ))
-two_skeleton recor χ = when_mapped both _ _ ∙ ap₂ when (connect_alike disjunction χ) (ap₂ (λ x y. (x, y)) (left_skeleton χ) (right_skeleton χ))
-two_skeleton recnor χ = when_mapped both _ _ ∙ ap₂ when (neg_connect_alike disjunction χ) (ap₂ (λ x y. (neg x, neg y)) (left_left χ) (right_left χ))
-two_skeleton recnand χ = when_mapped both _ _ ∙ ap₂ when (neg_connect_alike conjunction χ) (ap₂ (λ x y. (neg x, neg y)) (left_left χ) (right_left χ))
+two_skeleton : (h : TwoSided) (χ : Formula) → map both (two_inner h χ) ≡ two_inner h (skeleton χ)
+two_skeleton recand χ = mapped_when both _ _ ∙ ap₂ when (connect_alike conjunction χ) (ap₂ (λ x y. (x, y)) (left_skeleton χ) (right_skeleton χ))
+two_skeleton recor χ = mapped_when both _ _ ∙ ap₂ when (connect_alike disjunction χ) (ap₂ (λ x y. (x, y)) (left_skeleton χ) (right_skeleton χ))
+two_skeleton recnor χ = mapped_when both _ _ ∙ ap₂ when (neg_connect_alike disjunction χ) (ap₂ (λ x y. (neg x, neg y)) (left_left χ) (right_left χ))
+two_skeleton recnand χ = mapped_when both _ _ ∙ ap₂ when (neg_connect_alike conjunction χ) (ap₂ (λ x y. (neg x, neg y)) (left_left χ) (right_left χ))
 
 -- ---- fits put together
 
-step_fit : {A : Type 0} (g : A → A) (o : Option A) (w : A → Walked) (f : A → Fit) → ((x : A) → fit_of (w x) ≡ f (g x)) → fit_of (if_fits o w) ≡ if_some (mapped g o) f
+step_fit : {A : Type 0} (g : A → A) (o : Option A) (w : A → Walked) (f : A → Fit) → ((x : A) → fit_of (w x) ≡ f (g x)) → fit_of (if_fits o w) ≡ if_some (map g o) f
 unfolding if_fits if_some
 step_fit g none w f e = refl
 step_fit g (some x) w f e = e x
 
-some_fit : {A : Type 0} (g : A → A) (o : Option A) (w f : A → Fit) → ((x : A) → w x ≡ f (g x)) → if_some o w ≡ if_some (mapped g o) f
+some_fit : {A : Type 0} (g : A → A) (o : Option A) (w f : A → Fit) → ((x : A) → w x ≡ f (g x)) → if_some o w ≡ if_some (map g o) f
 unfolding if_some
 some_fit g none w f e = refl
 some_fit g (some x) w f e = e x
@@ -209,16 +201,16 @@ both_fit χ make (yields k met ψ) (yields j met' ξ) = refl
 
 module _ (arity : ℕ → Option ℕ) where
   -- the formula that the sub-plan takes has the shape of the one that it meets with nothing put
-  inner_skeleton : (n : ℕ) (h : OneSided) (χ : Formula) → mapped skeleton (inner arity n h χ) ≡ met_by arity n h (skeleton χ)
-  inner_skeleton n skip χ = when_mapped skeleton _ _ ∙ ap₂ when (forall_alike χ) (left_skeleton χ)
+  inner_skeleton : (n : ℕ) (h : OneSided) (χ : Formula) → map skeleton (inner arity n h χ) ≡ met_by arity n h (skeleton χ)
+  inner_skeleton n skip χ = mapped_when skeleton _ _ ∙ ap₂ when (forall_alike χ) (left_skeleton χ)
   inner_skeleton n (skol s) χ =
-      when_mapped skeleton _ _ ∙ ap₂ when (ap (λ b. takes (arity s) n && b) (neg_forall_alike χ)) (ap neg (put_skeleton 0 (apply s (scope n)) (left (left χ)) ∙ left_left χ))
-  inner_skeleton n recnn χ = when_mapped skeleton _ _ ∙ ap₂ when (neg_neg_alike χ) (left_left χ)
+      mapped_when skeleton _ _ ∙ ap₂ when (ap (λ b. takes (arity s) n && b) (neg_forall_alike χ)) (ap neg (put_skeleton 0 (apply s (scope n)) (left (left χ)) ∙ left_left χ))
+  inner_skeleton n recnn χ = mapped_when skeleton _ _ ∙ ap₂ when (neg_neg_alike χ) (left_left χ)
 
-  met_skeleton : (n : ℕ) (h : OneSided) (χ : Formula) → mapped skeleton (met_by arity n h χ) ≡ met_by arity n h (skeleton χ)
-  met_skeleton n skip χ = when_mapped skeleton _ _ ∙ ap₂ when (forall_alike χ) (left_skeleton χ)
-  met_skeleton n (skol s) χ = when_mapped skeleton _ _ ∙ ap₂ when (ap (λ b. takes (arity s) n && b) (neg_forall_alike χ)) (ap neg (left_left χ))
-  met_skeleton n recnn χ = when_mapped skeleton _ _ ∙ ap₂ when (neg_neg_alike χ) (left_left χ)
+  met_skeleton : (n : ℕ) (h : OneSided) (χ : Formula) → map skeleton (met_by arity n h χ) ≡ met_by arity n h (skeleton χ)
+  met_skeleton n skip χ = mapped_when skeleton _ _ ∙ ap₂ when (forall_alike χ) (left_skeleton χ)
+  met_skeleton n (skol s) χ = mapped_when skeleton _ _ ∙ ap₂ when (ap (λ b. takes (arity s) n && b) (neg_forall_alike χ)) (ap neg (left_left χ))
+  met_skeleton n recnn χ = mapped_when skeleton _ _ ∙ ap₂ when (neg_neg_alike χ) (left_left χ)
 
   walk_by_shape : (p : Plan) (n : ℕ) (χ : Formula) → fit_of (walk arity n p χ) ≡ plan_fit arity n p (skeleton χ)
   walk_by_shape id n χ = refl

@@ -1,31 +1,24 @@
--- What keeping an instance asks of the table, and after another call still asks.
-use Rattle.std.proofs.Common.{◌≡◌, ℕ, ◌+◌, ◌^◌, ◌<◌, ◌≤◌, true, ap, ◌∙◌, ap₂, arith}
-use Rattle.logic.specs.Tree.{size, foralls, open_indices, put_tree, put_size}
-use Rattle.logic.proofs.Trees.{put_tree_size}
+-- What measuring and keeping an instance at a closed thing asks of the table.
+use Rattle.std.proofs.Common.{◌≡◌, ℕ, ◌<◌, ◌≤◌, true, ◌&&◌, leb, arith}
+use Rattle.std.proofs.lemmas.Bool.{and_parts, leb-true}
+use Rattle.logic.specs.Tree.{Tree, size, foralls, open_indices, put_size}
 use Rattle.terms.specs.declared.Terms.{Terms}
+use Rattle.terms.specs.Classes.{tree_class}
 use Rattle.terms.specs.Meaning.{largest}
-use Rattle.terms.specs.Outcome.{count, tree, WellFormed}
-use Rattle.rules.specs.Forms.{closed_thing}
-use Rattle.rules.proofs.Measuring.{closed_thing_is, few_foralls}
+use Rattle.terms.specs.Outcome.{count, tree}
+use Rattle.terms.proofs.Putting.{put_size_bound}
+use Rattle.terms.proofs.Reading.{foralls_below}
+use Rattle.rules.specs.Forms.{closed_thing, is_thing}
 
-pub record Placeable (T : Terms) (a t : ℕ) : Type 0 where
-  pub unbound : foralls (tree T t) ≡ 0
-  pub fits : open_indices (tree T t) + foralls (tree T a) < 2 ^ 32
-  pub small : put_size 0 (size (tree T t)) (tree T a) ≤ largest
+-- a closed thing has no open index and no `forall`
+pub closed_thing_is : (t : Tree) → closed_thing t ≡ true → (open_indices t ≡ 0) × (foralls t ≡ 0)
+closed_thing_is t e =
+    let p = and_parts (is_thing (tree_class t) && leb (open_indices t) 0) (leb (foralls t) 0) e in
+    let q = and_parts (is_thing (tree_class t)) (leb (open_indices t) 0) p.0 in
+    (omega (arith, leb-true (open_indices t) 0 q.1), omega (arith, leb-true (foralls t) 0 p.1))
 
-pub placeable : (T : Terms) → WellFormed T → (a t : ℕ) → a < count T → closed_thing (tree T t) ≡ true → size (put_tree 0 (tree T t) (tree T a)) ≤ largest → Placeable T a t
-placeable T w a t l e s =
-    let p = closed_thing_is (tree T t) e in
-    record {
-      unbound = p.1;
-      fits = omega (arith, p.0, few_foralls T w a l);
-      small = omega (arith, s, put_tree_size 0 (tree T t) (tree T a));
-    }
+pub few_foralls : (T : Terms) → (i : ℕ) → i < count T → foralls (tree T i) < largest
+few_foralls T i l = omega (arith, foralls_below (tree T i), T.sound.small i l)
 
--- in a table in which the two terms are the same
-pub placeable_later : (T U : Terms) (a t : ℕ) → tree U a ≡ tree T a → tree U t ≡ tree T t → Placeable T a t → Placeable U a t
-placeable_later T U a t e f p = record {
-  unbound = ap foralls f ∙ p.unbound;
-  fits = omega (arith, ap open_indices f, ap foralls e, p.fits);
-  small = omega (arith, ap₂ (λ x y. put_size 0 (size x) y) f e, p.small);
-}
+pub instance_bounded : (T : Terms) → (a t : ℕ) → a < count T → t < count T → put_size 0 (size (tree T t)) (tree T a) ≤ 400_000_000
+instance_bounded T a t l m = omega (arith, put_size_bound 0 (size (tree T t)) (tree T a) (T.sound.small t m), T.sound.small a l)

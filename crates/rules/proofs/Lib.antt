@@ -1,15 +1,14 @@
 pub mod Sameness
-pub mod Measuring
 pub mod Instances
 pub mod Settling
 pub mod Stacks
 pub mod Walking
 pub mod Handing
 pub mod Joining
-pub mod Flat
 pub mod AnsweredBy
 pub mod Literals
 pub mod Bounds
+pub mod Whens
 pub mod FitAlike
 pub mod TypedShapes
 pub mod TypedRules

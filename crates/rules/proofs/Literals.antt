@@ -1,9 +1,9 @@
 -- Number terms that are literals, and their sums.
-use Rattle.std.proofs.Common.{◌≡◌, Bool, true, false, cond, ℤ, is_some, is_err, Some, None, Ok, Err, Option, Result, sym, refl, ap, ◌∙◌, subst, inl, inr, arith}
-use mathlib.Core.Bool.{false≢true}
+use Rattle.std.proofs.Common.{◌≡◌, Bool, true, false, cond, ℤ, Some, None, Ok, Err, Option, Result, sym, refl, ap, ◌∙◌, subst, inl, inr}
 use Rattle.std.proofs.lemmas.Bool.{cases_Bool}
+use Rattle.std.proofs.lemmas.Option.{none-some, same_Some}
 use Rattle.logic.specs.Syntax.{Number, lit, add, minus, measure, eq_numbers, leq, neg}
-use Rattle.logic.specs.Tree.{Tree, leaf, unary, binary, number_tree, size, literals_pass}
+use Rattle.logic.specs.Tree.{Tree, number_tree, literals_pass}
 use Rattle.logic.specs.Arithmetic.{Arithmetic}
 use Rattle.logic.specs.Facts.{Stated, misshapen, unadmitted, formula, of_literal, state, sum, atmost}
 use Rattle.model.specs.Refusal.{refused}
@@ -13,35 +13,17 @@ use Rattle.rules.specs.declared.refusal.Reason.{Reason}
 use Rattle.rules.specs.Refusals.{refusal}
 use Rattle.rules.specs.Shapes.{literal, admitted, total, compared}
 
-some_not_none : {X : Type 0} (x : X) → Some x ≡ None → ⊥
-some_not_none x e = absurd (true_not_false (ap is_some e))
-  where
-    true_not_false : true ≡ false → ⊥
-    true_not_false h = absurd (grind arith)
-
-abbrev value_or : {X : Type 0} → X → Option X → X
-value_or d (Some x) = x
-value_or d None = d
-
-some_inj : {X : Type 0} (x y : X) → Some x ≡ Some y → x ≡ y
-some_inj x y e = ap (value_or x) e
-
 pub is_literal : (x : Number) (n : ℤ) → literal (number_tree x) ≡ Some n → x ≡ lit n
-is_literal (lit m) n h = ap lit (some_inj m n h)
-is_literal (add a b) n h = absurd (some_not_none n (sym h))
-is_literal (minus a) n h = absurd (some_not_none n (sym h))
-is_literal (measure s l) n h = absurd (some_not_none n (sym h))
+is_literal (lit m) n h = ap lit (same_Some m n h)
+is_literal (add a b) n h = absurd cc
+is_literal (minus a) n h = absurd cc
+is_literal (measure s l) n h = absurd cc
 
 pub no_literal : (x : Number) (f : ℤ → Stated) → literal (number_tree x) ≡ None → of_literal x f ≡ misshapen
-no_literal (lit m) f h = absurd (some_not_none m h)
+no_literal (lit m) f h = absurd cc
 no_literal (add a b) f h = refl
 no_literal (minus a) f h = refl
 no_literal (measure s l) f h = refl
-
-pub literal_small : (t : Tree) (n : ℤ) → literal t ≡ Some n → size t ≡ 1
-literal_small (leaf x) n h = refl
-literal_small (unary u t) n h = absurd (some_not_none n (sym h))
-literal_small (binary u s t) n h = absurd (some_not_none n (sym h))
 
 -- ---- the sum of two admitted literals
 
@@ -51,20 +33,17 @@ module _ (A : Arithmetic) (m n : ℤ) (am : A.admits m ≡ true) (an : A.admits 
 
   pub sum_admitted : (s : ℤ) → Some s ≡ literal_sum A m n → (A.admits (A.sum m n) ≡ true) × (s ≡ A.sum m n)
   sum_admitted s h = elim (cases_Bool (A.admits (A.sum m n))) [
-    | inl y ↦ (y, some_inj s (A.sum m n) (h ∙ sum_is ∙ rw y))
-    | inr y ↦ absurd (some_not_none s (h ∙ sum_is ∙ rw y))
+    | inl y ↦ (y, same_Some s (A.sum m n) (h ∙ sum_is ∙ rw y))
+    | inr y ↦ absurd (none-some s (sym (h ∙ sum_is ∙ rw y)))
   ]
 
   pub sum_unadmitted : None ≡ literal_sum A m n → A.admits (A.sum m n) ≡ false
   sum_unadmitted h = elim (cases_Bool (A.admits (A.sum m n))) [
-    | inl y ↦ absurd (some_not_none (A.sum m n) (sym (h ∙ sum_is ∙ rw y)))
+    | inl y ↦ absurd (none-some (A.sum m n) (h ∙ sum_is ∙ rw y))
     | inr y ↦ y
   ]
 
 -- ---- what a sum and a comparison state of operands that were read
-
-ok_not_err : {X : Type 0} {T E : Type 0} (x : T) (e : E) → Ok x ≡ Err e → X
-ok_not_err x e h = absurd (false≢true (ap is_err h))
 
 same_reason : {T : Type 0} (d r : Reason) → ◌≡◌ {A = Result T Reason} (Err r) (Err d) → d ≡ r
 same_reason d r h = cc
@@ -101,9 +80,6 @@ module _ (A : Arithmetic) (x y : Number) {s t : Tree} (e : s ≡ number_tree x) 
     atmost_states : state A (atmost x y) ≡ formula (cond (A.atmost m n) (leq x y) (neg (leq x y)))
     atmost_states = both_read (λ x y. state A (atmost x y) ≡ formula (cond (A.atmost m n) (leq x y) (neg (leq x y)))) refl
 
-    read_small : (size s ≡ 1) × (size t ≡ 1)
-    read_small = (literal_small s m h, literal_small t n k)
-
   -- ---- by what was read
 
   abbrev SumRefused : Reason → Type 0
@@ -116,7 +92,7 @@ module _ (A : Arithmetic) (x y : Number) {s t : Tree} (e : s ≡ number_tree x) 
     admission_refused : (m n : ℤ) → literal s ≡ Some m → literal t ≡ Some n → (o : Option ℤ) → o ≡ literal_sum A m n → (r : Reason) → Err r ≡ admitted o → SumRefused r
     admission_refused m n h k None i r a =
         subst SumRefused (same_reason Reason.Unadmitted r a) (ap stated (sum_states_none m n h k (sum_unadmitted A m n (left_admitted m n h k p) (right_admitted m n h k q) i)))
-    admission_refused m n h k (Some j) i r a = ok_not_err j r (sym a)
+    admission_refused m n h k (Some j) i r a = absurd cc
 
     refused_by : (o u : Option ℤ) → literal s ≡ o → literal t ≡ u → (r : Reason) → Err r ≡ total A o u → SumRefused r
     refused_by None u h k r a = subst SumRefused (same_reason Reason.Unfounded r a) (ap stated (left_misshapen _ h))
@@ -128,43 +104,41 @@ module _ (A : Arithmetic) (x y : Number) {s t : Tree} (e : s ≡ number_tree x) 
     total_refused r a = refused_by (literal s) (literal t) refl refl r a
 
     abbrev SumsTo : ℤ → Type 0
-    SumsTo i = (state A (sum x y) ≡ formula (eq_numbers (add x y) (lit i))) × (size s ≡ 1) × (size t ≡ 1)
+    SumsTo i = state A (sum x y) ≡ formula (eq_numbers (add x y) (lit i))
 
     admission_states : (m n : ℤ) → literal s ≡ Some m → literal t ≡ Some n → (o : Option ℤ) → o ≡ literal_sum A m n → (i : ℤ) → Ok i ≡ admitted o → SumsTo i
-    admission_states m n h k None j i a = ok_not_err i Reason.Unadmitted a
+    admission_states m n h k None j i a = absurd cc
     admission_states m n h k (Some l) j i a =
         let ei : i ≡ l = cc in
         let z = sum_admitted A m n (left_admitted m n h k p) (right_admitted m n h k q) l j in
-        let small = read_small m n h k in
-        (sum_states m n h k z.0 ∙ ap (λ v. formula (eq_numbers (add x y) (lit v))) (sym (ei ∙ z.1)), small.0, small.1)
+        sum_states m n h k z.0 ∙ ap (λ v. formula (eq_numbers (add x y) (lit v))) (sym (ei ∙ z.1))
 
     states_by : (o u : Option ℤ) → literal s ≡ o → literal t ≡ u → (i : ℤ) → Ok i ≡ total A o u → SumsTo i
-    states_by None u h k i a = ok_not_err i Reason.Unfounded a
-    states_by (Some m) None h k i a = ok_not_err i Reason.Unfounded a
+    states_by None u h k i a = absurd cc
+    states_by (Some m) None h k i a = absurd cc
     states_by (Some m) (Some n) h k i a = admission_states m n h k (literal_sum A m n) refl i a
 
-    -- and a sum is what it states, of small operands
-    pub total_states : (i : ℤ) → Ok i ≡ total A (literal s) (literal t) → (state A (sum x y) ≡ formula (eq_numbers (add x y) (lit i))) × (size s ≡ 1) × (size t ≡ 1)
+    -- and a sum is what it states
+    pub total_states : (i : ℤ) → Ok i ≡ total A (literal s) (literal t) → state A (sum x y) ≡ formula (eq_numbers (add x y) (lit i))
     total_states i a = states_by (literal s) (literal t) refl refl i a
 
   compared_refused_by : (o u : Option ℤ) → literal s ≡ o → literal t ≡ u → (r : Reason) → Err r ≡ compared A o u → AtmostRefused r
   compared_refused_by None u h k r a = subst AtmostRefused (same_reason Reason.Unfounded r a) (ap stated (left_misshapen _ h))
   compared_refused_by (Some m) None h k r a = subst AtmostRefused (same_reason Reason.Unfounded r a) (ap stated (right_misshapen _ m h k))
-  compared_refused_by (Some m) (Some n) h k r a = ok_not_err (A.atmost m n) r (sym a)
+  compared_refused_by (Some m) (Some n) h k r a = absurd cc
 
   pub compared_refused : (r : Reason) → Err r ≡ compared A (literal s) (literal t) → stated (state A (atmost x y)) ≡ refused (refusal r) 0
   compared_refused r a = compared_refused_by (literal s) (literal t) refl refl r a
 
   abbrev ComparesAs : Bool → Type 0
-  ComparesAs b = (state A (atmost x y) ≡ formula (cond b (leq x y) (neg (leq x y)))) × (size s ≡ 1) × (size t ≡ 1)
+  ComparesAs b = state A (atmost x y) ≡ formula (cond b (leq x y) (neg (leq x y)))
 
   compares_by : (o u : Option ℤ) → literal s ≡ o → literal t ≡ u → (b : Bool) → Ok b ≡ compared A o u → ComparesAs b
-  compares_by None u h k b a = ok_not_err b Reason.Unfounded a
-  compares_by (Some m) None h k b a = ok_not_err b Reason.Unfounded a
+  compares_by None u h k b a = absurd cc
+  compares_by (Some m) None h k b a = absurd cc
   compares_by (Some m) (Some n) h k b a =
       let eb : A.atmost m n ≡ b = cc in
-      let small = read_small m n h k in
-      (subst (λ c. state A (atmost x y) ≡ formula (cond c (leq x y) (neg (leq x y)))) eb (atmost_states m n h k), small.0, small.1)
+      subst ComparesAs eb (atmost_states m n h k)
 
-  pub compared_states : (b : Bool) → Ok b ≡ compared A (literal s) (literal t) → (state A (atmost x y) ≡ formula (cond b (leq x y) (neg (leq x y)))) × (size s ≡ 1) × (size t ≡ 1)
+  pub compared_states : (b : Bool) → Ok b ≡ compared A (literal s) (literal t) → state A (atmost x y) ≡ formula (cond b (leq x y) (neg (leq x y)))
   compared_states b a = compares_by (literal s) (literal t) refl refl b a

@@ -10,11 +10,12 @@ use Rattle.logic.specs.Closed.{closed}
 use Rattle.logic.specs.Rules as rules
 use Rattle.logic.specs.Rules.{when, left, sides}
 use Rattle.logic.specs.Terms.{of_thing, of_number}
+use Rattle.logic.proofs.RulesAre.{fits}
 use Rattle.logic.proofs.Trees.{put_formula_tree, thing_foralls, max_parts}
 use Rattle.terms.proofs.ClassIs.{class_is}
 use Rattle.rules.specs.Forms.{form, is_thing, closed_thing, instantiated, replaced}
 use Rattle.rules.proofs.TypedShapes.{forall_or_not, equation_or_not, no_forall, no_equation}
-use Rattle.rules.proofs.TypedRules.{fails, fits}
+use Rattle.rules.proofs.TypedRules.{fails}
 
 -- a closed thing's tree is one of a closed thing
 pub closed_thing_tree : (t : Thing) → closed (thing_tree t) ≡ true → closed_thing (thing_tree t) ≡ true

@@ -11,13 +11,14 @@ use Rattle.logic.specs.Tree.{Tree, unary, binary, formula_tree, plan_tree, parts
 use Rattle.logic.specs.Rules.{◌>>=◌, when, left, right}
 use Rattle.logic.specs.Plans as plans
 use Rattle.logic.specs.Plans.{Walked, walk, inner, two_inner, if_fits, takes, inner_scope, rejoined, scope}
-use Rattle.logic.proofs.RulesAre.{same_refl}
+use Rattle.logic.proofs.RulesAre.{same_refl, fits}
 use Rattle.logic.proofs.Trees.{put_formula_tree}
 use Rattle.model.specs.Session.{parts_of_each}
 use Rattle.rules.specs.Turning.{Turned, yields, around, around_both, if_some, taken, taken_both, rebuilt, turned, parts_of_trees}
 use Rattle.rules.specs.Typed.{in_trees}
 use Rattle.rules.proofs.TypedShapes.{negation_or_not, conjunction_or_not, disjunction_or_not, forall_or_not}
-use Rattle.rules.proofs.TypedRules.{fails, fits}
+use Rattle.rules.proofs.TypedRules.{fails}
+use Rattle.rules.proofs.Whens.{mapped_when}
 
 abbrev pair_trees : Formula × Formula → Tree × Tree
 pair_trees c = (formula_tree c.0, formula_tree c.1)
@@ -31,11 +32,6 @@ fails_if : {A : Type 0} (b : Bool) (φ ψ : Formula) (x : A) → (φ ≡ ψ → 
 unfolding when
 fails_if true φ ψ x differs = fails φ ψ x differs
 fails_if false φ ψ x differs = refl
-
-mapped_when : (b : Bool) (φ : Formula) → Option.map formula_tree (when b φ) ≡ when b (formula_tree φ)
-unfolding when
-mapped_when true φ = refl
-mapped_when false φ = refl
 
 -- ---- what a head takes
 
@@ -71,7 +67,7 @@ module _ (arity : ℕ → Option ℕ) (n : ℕ) where
         let x = neg (instance_of d.0 (apply s (scope n))) in
         subst (λ y. SameTaken (skol s) (neg y)) (sym d.1)
         (ap (Option.map formula_tree) (fits_if (takes (arity s) n) (neg (forall d.0)) x)
-        ∙ mapped_when (takes (arity s) n) x
+        ∙ mapped_when formula_tree (takes (arity s) n) x
         ∙ ap (λ y. when (takes (arity s) n) (unary trees.neg y)) (put_formula_tree 0 (apply s (scope n)) d.0))
     | inr m ↦
         rw m.1

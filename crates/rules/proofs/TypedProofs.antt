@@ -40,7 +40,7 @@ mapped_at (φ ∷ H) (suc i) = mapped_at H i
 
 -- each closed
 closed_at : (H : List Formula) → each closed (map formula_tree H) ≡ true → (i : ℕ) (φ : Formula) → get_elem? H i ≡ some φ → open_indices (formula_tree φ) ≤ 0
-closed_at [] c i φ e = absurd (none-ne-some φ e)
+closed_at [] c i φ e = absurd cc
 closed_at (ψ ∷ H) c zero φ e =
     let p = and_parts (closed (formula_tree ψ)) (each closed (map formula_tree H)) c in
     leb-true _ _ (ap (λ x. closed (formula_tree x)) (sym (some-injective ψ φ e)) ∙ p.0)

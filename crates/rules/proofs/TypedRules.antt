@@ -1,7 +1,7 @@
 -- What a rule concludes of the trees of its premises is the tree of what it concludes of the premises.
 use Rattle.std.proofs.Common.{◌≡◌, Bool, true, false, cond, sym, refl, ap, ◌∙◌, subst, inl, inr}
-use mathlib.Core.Bool.{false≢true, decide_iff}
 use mathlib.Core.Option.{none, some, map}
+use Rattle.std.specs.Cmp.{both_ways}
 use Rattle.logic.specs.Syntax.{Thing, Number, Formula, OnePremise, TwoPremises, falsity, neg, eq_things, implies, and, or, eq_numbers, same, same_thing, same_number}
 use Rattle.logic.specs.Syntax.{nnpp, eqsymm, and1, and2, orimp, addneg, intro, elimnot, mp, eqtrans, negelim}
 use Rattle.logic.specs.Tree as trees
@@ -9,27 +9,23 @@ use Rattle.logic.specs.Tree.{Tree, binary, same_tree, thing_tree, number_tree, f
 use Rattle.logic.specs.Rules as rules
 use Rattle.logic.specs.Rules.{when, left, right, conclude_from, conclude_both}
 use Rattle.logic.specs.Terms.{of_thing, of_number, of_formula}
-use Rattle.logic.proofs.RulesAre.{same_true, same_refl, passes}
+use Rattle.logic.proofs.RulesAre.{same_true, same_refl, same_thing_true, same_thing_refl, same_number_true, same_number_refl, fits}
 use Rattle.logic.proofs.Trees.{same_tree_true, same_tree_refl, tree_injective}
 use Rattle.rules.specs.Forms.{form, is_falsity, denied, negated, detached, from_one, from_two, absurdity}
-use Rattle.rules.proofs.Sameness.{alike}
 use Rattle.rules.proofs.TypedShapes.{read_alike, denial_or_not, negation_or_not, conjunction_or_not, disjunction_or_not, implication_or_not, falsity_or_not, equation_or_not, no_denial, no_negation, no_conjunction, no_disjunction, no_equation}
 
 -- ---- sameness of terms is sameness of trees
 
 pub same_formula_tree : (φ ψ : Formula) → same_tree (formula_tree φ) (formula_tree ψ) ≡ same φ ψ
 same_formula_tree φ ψ =
-    alike _ _
+    both_ways _ _
     (λ e. let p = tree_injective (of_formula φ) (of_formula ψ) (same_tree_true _ _ e) in let q : φ ≡ ψ = cc in subst (λ x. same φ x ≡ true) q (same_refl φ))
     (λ e. subst (λ x. same_tree (formula_tree φ) (formula_tree x) ≡ true) (same_true φ ψ e) (same_tree_refl (formula_tree φ)))
 
 -- a test that nothing but equality passes
 pub fails : {A : Type 0} (φ ψ : Formula) (x : A) → (φ ≡ ψ → ⊥) → when (same φ ψ) x ≡ none
 unfolding when
-fails φ ψ x differs = let e : same φ ψ ≡ false = alike _ _ (λ e. absurd (differs (same_true φ ψ e))) (λ e. absurd (false≢true e)) in rw e
-
-pub fits : {A : Type 0} (φ : Formula) (x : A) → when (same φ φ) x ≡ some x
-fits φ x = passes (same φ φ) x (same_refl φ)
+fails φ ψ x differs = let e : same φ ψ ≡ false = both_ways _ _ (λ e. absurd (differs (same_true φ ψ e))) (λ e. absurd cc) in rw e
 
 -- ---- rules of one premise
 
@@ -113,7 +109,7 @@ mapped_when f false x = refl
 -- tests for sameness that pass together
 same_together : (φ ψ χ ξ : Formula) → (φ ≡ ψ → χ ≡ ξ) → (χ ≡ ξ → φ ≡ ψ) → same φ ψ ≡ same χ ξ
 same_together φ ψ χ ξ f g =
-    alike _ _
+    both_ways _ _
     (λ e. subst (λ x. same χ x ≡ true) (f (same_true φ ψ e)) (same_refl χ))
     (λ e. subst (λ x. same φ x ≡ true) (g (same_true χ ξ e)) (same_refl φ))
 
@@ -145,36 +141,24 @@ by_negelim χ ξ = elim (negation_or_not χ) [
 
 -- ---- chained equations
 
-same_thing_true : (t u : Thing) → same_thing t u ≡ true → t ≡ u
-same_thing_true t u = (decide_iff _).0
-
-same_thing_refl : (t : Thing) → same_thing t t ≡ true
-same_thing_refl t = (decide_iff _).1 refl
-
-same_number_true : (a b : Number) → same_number a b ≡ true → a ≡ b
-same_number_true a b = (decide_iff _).0
-
-same_number_refl : (a : Number) → same_number a a ≡ true
-same_number_refl a = (decide_iff _).1 refl
-
 same_thing_tree : (t u : Thing) → same_tree (thing_tree t) (thing_tree u) ≡ same_thing t u
 same_thing_tree t u =
-    alike _ _
+    both_ways _ _
     (λ e. let p = tree_injective (of_thing t) (of_thing u) (same_tree_true _ _ e) in let q : t ≡ u = cc in subst (λ x. same_thing t x ≡ true) q (same_thing_refl t))
     (λ e. subst (λ x. same_tree (thing_tree t) (thing_tree x) ≡ true) (same_thing_true t u e) (same_tree_refl (thing_tree t)))
 
 same_number_tree : (a b : Number) → same_tree (number_tree a) (number_tree b) ≡ same_number a b
 same_number_tree a b =
-    alike _ _
+    both_ways _ _
     (λ e. let p = tree_injective (of_number a) (of_number b) (same_tree_true _ _ e) in let q : a ≡ b = cc in subst (λ x. same_number a x ≡ true) q (same_number_refl a))
     (λ e. subst (λ x. same_tree (number_tree a) (number_tree x) ≡ true) (same_number_true a b e) (same_tree_refl (number_tree a)))
 
 -- a thing's tree is no number term's
 thing_no_number : (t : Thing) (a : Number) → thing_tree t ≡ number_tree a → ⊥
-thing_no_number t a e = let p = tree_injective (of_thing t) (of_number a) e in false≢true cc
+thing_no_number t a e = let p = tree_injective (of_thing t) (of_number a) e in cc
 
 differ : (x y : Tree) → (x ≡ y → ⊥) → same_tree x y ≡ false
-differ x y d = alike _ _ (λ e. absurd (d (same_tree_true x y e))) (λ e. absurd (false≢true e))
+differ x y d = both_ways _ _ (λ e. absurd (d (same_tree_true x y e))) (λ e. absurd cc)
 
 things_chain : (t u : Thing) (ξ : Formula) → SameBoth eqtrans (eq_things t u) ξ
 unfolding rules.◌>>=◌

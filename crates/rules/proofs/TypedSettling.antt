@@ -1,20 +1,17 @@
 -- Conclusions settled one after the other, on formulas and on trees.
 use Rattle.std.proofs.Common.{◌≡◌, ℕ, suc, ◌+◌, Bool, true, false, leb, List, [], ◌∷◌, ◌++◌, length, sym, refl, ap, ◌∙◌, ap₂, append_assoc, add-one, arith, length-append}
-use mathlib.Core.Bool.{false≢true}
 use mathlib.Core.Option.{Option, none, some, map}
 use Rattle.logic.specs.Syntax.{Formula}
 use Rattle.logic.specs.Tree.{Tree, formula_tree, parts}
 use Rattle.logic.specs.Rules as rules
-use Rattle.model.specs.State.{keep_each}
+use Rattle.logic.specs.Keeping.{keep_each}
 use Rattle.logic.proofs.PositionsRight.{all_some}
 use Rattle.model.specs.Refusal.{oversized, crowded, unfounded, Outcome, done, refused, ◌>>=◌, ◌>>◌, require_at, need}
 use Rattle.model.specs.Limits.{limits, Room, within}
 use Rattle.model.specs.Session.{settle}
 use Rattle.model.proofs.Settling as settling
-use Rattle.rules.specs.Forms.{small}
 use Rattle.rules.specs.Walk.{Found, settled}
 use Rattle.rules.specs.Typed.{settled_to}
-use Rattle.rules.proofs.Flat.{keep_each_same}
 use Rattle.rules.proofs.TypedLimits.{small_is_within}
 
 -- ---- outcomes
@@ -74,8 +71,7 @@ module _ (R : Room) where
   settled_last at ts (some φ) =
       let us = keep_each ts (parts (formula_tree φ)) in
       let c = leb (length us) R.terms in
-      ap (λ v. require_at at oversized (small (formula_tree φ)) >> require_at at crowded (leb (length v) R.terms) >> done (found (suc at) v φ)) (sym (keep_each_same ts (parts (formula_tree φ))))
-      ∙ ap (λ b. require_at at oversized b >> require_at at crowded c >> done (found (suc at) us φ)) (small_is_within φ)
+      ap (λ b. require_at at oversized b >> require_at at crowded c >> done (found (suc at) us φ)) (small_is_within φ)
       ∙ last_of at us φ (within limits (formula_tree φ)) c
 
   -- ---- a rule after its premises
@@ -91,7 +87,7 @@ module _ (R : Room) where
   ruled : (at : ℕ) (us : List Tree) (o : Option Formula) (f : Formula → Option Formula) (rule : Tree → Option Tree) → all_some (o ∷ []) ≡ true
       → ((φ : Formula) → o ≡ some φ → map formula_tree (f φ) ≡ rule (formula_tree φ)) → Ruled at us o f rule
   unfolding rules.◌>>=◌
-  ruled at us none f rule h e = absurd (false≢true h)
+  ruled at us none f rule h e = absurd cc
   ruled at us (some φ) f rule h e = ap (settled R.terms at us) (sym (e φ refl)) ∙ settled_last at us (f φ)
 
   pub one_more : (at : ℕ) (ts : List Tree) (l : List (Option Formula)) (o : Option Formula) (f : Formula → Option Formula) (rule : Tree → Option Tree) → all_some l ≡ all_some (o ∷ [])
@@ -108,7 +104,7 @@ module _ (R : Room) where
       → (ending o at us >>= λ g. settled_to R g.next g.terms m p >>= λ h. settled R.terms h.next h.terms (rule g.formula h.formula))
       ≡ settled_to R at us (m ++ (rules.◌>>=◌ o (λ χ. rules.◌>>=◌ p (f χ)) ∷ [])) (rules.◌>>=◌ o (λ χ. rules.◌>>=◌ p (f χ)))
   unfolding rules.◌>>=◌
-  both_ruled at us m none p f rule h a e = absurd (false≢true h)
+  both_ruled at us m none p f rule h a e = absurd cc
   both_ruled at us m (some φ) p f rule h a e = one_more at us m p (f φ) (rule (formula_tree φ)) a (λ ψ q. e φ ψ refl q)
 
   pub two_more : (at : ℕ) (ts : List Tree) (l m : List (Option Formula)) (o p : Option Formula) (f : Formula → Formula → Option Formula) (rule : Tree → Tree → Option Tree)

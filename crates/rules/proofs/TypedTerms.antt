@@ -1,8 +1,6 @@
 -- A tree that is read as a term is that term's tree and of its class, and a head takes operands of the classes that make it a term.
 use Rattle.std.proofs.Common.{◌≡◌, Bool, true, false, ◌&&◌, ◌||◌, sym, refl, ap, ◌∙◌, ap₂}
-use mathlib.Core.Bool.{false≢true}
 use mathlib.Core.Option.{Option, none, some}
-use Rattle.std.proofs.lemmas.Bool.{true≢false}
 use Rattle.logic.specs.Syntax as syntax
 use Rattle.logic.specs.Tree.{Unary, Binary, Tree, unary, binary, thing_tree, things_tree, number_tree, formula_tree, plan_tree, proof_tree}
 use Rattle.logic.specs.Rules.{◌>>=◌}
@@ -46,12 +44,12 @@ is_some none = false
 is_some (some x) = true
 
 something : {X : Type 0} (o : Option X) → is_some o ≡ true → (x : X) × (o ≡ some x)
-something none e = absurd (false≢true e)
+something none e = absurd cc
 something (some x) e = (x, refl)
 
 nothing : {X : Type 0} (o : Option X) → is_some o ≡ false → o ≡ none
 nothing none e = refl
-nothing (some x) e = absurd (true≢false e)
+nothing (some x) e = absurd cc
 
 tests_thing : (x : Term) → is_thing (term_class x) ≡ is_some (as_thing x)
 tests_thing (of_thing t) = refl

@@ -28,7 +28,6 @@ module _ (t0 t1 t2 : Terms) (o : Outcome Found) (k : Found → Outcome Found) wh
   -- a call after another that concluded
   pub answers_then : (f : Concluded) (r : Result Concluded Refused) → Answers t0 t1 o (Ok f) → Answers t1 t2 (k (found t1 f)) r → Answers t0 t2 (o >>= k) r
   answers_then f r a b = record {
-    well_formed = b.well_formed;
     same_room = b.same_room ∙ a.same_room;
     front = front_then t0 t1 t2 (no_shorter t0 t1 a.front) a.front b.front;
     outcome = b.outcome ∙ ap (λ z. z >>= k) a.outcome;
@@ -38,7 +37,6 @@ module _ (t0 t1 t2 : Terms) (o : Outcome Found) (k : Found → Outcome Found) wh
   -- a refused sub-proof ends the walk
   pub answers_break : (e : Refused) → Answers t0 t1 o (Err e) → Answers t0 t1 (o >>= k) (Err e)
   answers_break e a = record {
-    well_formed = a.well_formed;
     same_room = a.same_room;
     front = a.front;
     outcome = ap (λ z. z >>= k) a.outcome;

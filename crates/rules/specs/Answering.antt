@@ -8,9 +8,9 @@ use Rattle.logic.specs.Tree.{Tree, formula_tree, parts}
 use Rattle.model.specs.Limits.{limits, within}
 use Rattle.model.specs.Refusal.{Outcome, done, refused, ◌>>=◌, ◌>>◌, require, oversized, crowded}
 use Rattle.model.specs.Session.{stated}
-use Rattle.model.specs.State.{keep_each}
+use Rattle.logic.specs.Keeping.{keep_each}
 use Rattle.terms.specs.declared.Terms.{Terms}
-use Rattle.terms.specs.Outcome.{entries, count, room, trees, WellFormed, Keeps}
+use Rattle.terms.specs.Outcome.{entries, count, room, most, trees, Keeps}
 use Rattle.rules.specs.declared.refusal.Reason.{Reason}
 use Rattle.rules.specs.Refusals.{refusal}
 
@@ -27,8 +27,7 @@ fact_kept A n ts f = stated (Facts.state A f) >>= formula_kept n ts
 
 -- the answer is the index of the formula, kept with its parts, or the reason; either way what was kept still stands in front
 pub record Answered (A : Arithmetic) (old new : Terms) (f : Fact) (answer : Result ℕ Reason) : Type 0 where
-  pub well_formed : WellFormed new
   pub same_room : room new ≡ room old
   pub front : take (count old) (entries new) ≡ entries old
-  pub outcome : MatchResult answer (λ i. (φ : Formula) × (fact_kept A (room old) (trees old) f ≡ done φ) × Keeps (entries old) (entries new) (formula_tree φ) i)
-      (λ e. fact_kept A (room old) (trees old) f ≡ refused (refusal e) 0)
+  pub outcome : MatchResult answer (λ i. (φ : Formula) × (fact_kept A (most old) (trees old) f ≡ done φ) × Keeps (entries old) (entries new) (formula_tree φ) i)
+      (λ e. fact_kept A (most old) (trees old) f ≡ refused (refusal e) 0)

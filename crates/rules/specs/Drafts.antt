@@ -1,22 +1,20 @@
--- The parts of a formula that is still to be made, by the trees that they become.
-use Rattle.std.specs.Prelude.{◌<◌}
-use Rattle.logic.specs.Tree.{Tree, leaf, unary, binary, lit}
+-- What the call that keeps a draft answers, and what it does to the table.
+use Rattle.std.specs.Prelude.{◌≡◌, ℕ, ◌<◌, true, false, length, take, Result, MatchResult}
+use Rattle.logic.specs.Tree.{Tree, parts}
 use Rattle.terms.specs.declared.Terms.{Terms}
-use Rattle.terms.specs.Heads.{unary_head, binary_head}
-use Rattle.terms.specs.Outcome.{count, tree}
-use Rattle.rules.specs.declared.draft.Part.{Part}
-use Rattle.rules.specs.declared.draft.Part.TheVariants.{Kept, Literal, One, Two}
+use Rattle.logic.specs.Keeping.{keep_each}
+use Rattle.terms.specs.Outcome.{entries, count, room, most, trees, Keeps}
+use Rattle.rules.specs.declared.refusal.Reason.{Reason}
+use Rattle.rules.specs.Forms.{small}
 
--- the tree of the part, over the terms that are kept
-abbrev pub part_tree : Terms → Part → Tree
-part_tree T (Kept i) = tree T i
-part_tree T (Literal n) = leaf (lit n)
-part_tree T (One h a) = unary (unary_head h) (tree T a)
-part_tree T (Two h a b) = binary (binary_head h) (tree T a) (tree T b)
+-- why the tree is not kept: it is over a limit, or with its parts there is no room for it
+abbrev pub NotKept : Terms → Tree → Reason → Type 0
+NotKept T root Reason.Oversized = small root ≡ false
+NotKept T root Reason.Crowded = (small root ≡ true) × (most T < length (keep_each (trees T) (parts root)))
+NotKept T root reason = ⊥
 
--- each kept term that it names is there
-abbrev pub Within : Terms → Part → Type 0
-Within T (Kept i) = i < count T
-Within T (Literal n) = Unit {0}
-Within T (One h a) = a < count T
-Within T (Two h a b) = (a < count T) × (b < count T)
+-- the answer is the index of the tree, kept with its parts, or why it is not kept; either way what was kept still stands in front
+pub record Stated (old new : Terms) (root : Tree) (answer : Result ℕ Reason) : Type 0 where
+  pub same_room : room new ≡ room old
+  pub front : take (count old) (entries new) ≡ entries old
+  pub outcome : MatchResult answer (λ i. (small root ≡ true) × Keeps (entries old) (entries new) root i) (NotKept old root)

@@ -1,19 +1,16 @@
 -- Whether a plan fits a formula, decided on the formula as it stands: nothing is put for a variable.
 use Rattle.std.specs.Prelude.{ℕ, suc, ◌+◌, ◌&&◌}
 use Rattle.std.proofs.Math.Option.{Option, none, some}
-use Rattle.logic.specs.Syntax.{Formula, OneSided, Plan, falsity, connect, neg, eq_things, relate, atom, forall, same, id, step, fork, skip, skol, recnn}
+use Rattle.logic.specs.Syntax.{Formula, OneSided, Plan, falsity, connect, neg, forall, same, id, step, fork, skip, skol, recnn}
 use Rattle.logic.specs.Rules.{when, left}
 use Rattle.logic.specs.Plans.{Walked, misfit, yields, takes, inner_scope, two_inner}
 
 -- the formula's shape: what its heads are down to its atoms
 abbrev pub skeleton : Formula → Formula
-skeleton falsity = falsity
 skeleton (connect c φ ψ) = connect c (skeleton φ) (skeleton ψ)
 skeleton (neg φ) = neg (skeleton φ)
-skeleton (eq_things t u) = falsity
-skeleton (relate r a b) = falsity
-skeleton (atom s l) = falsity
 skeleton (forall φ) = forall (skeleton φ)
+skeleton φ = falsity
 
 pub data Fit : Type 0 where
   -- the first position that does not fit

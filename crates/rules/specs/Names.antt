@@ -4,18 +4,15 @@ use Rattle.std.proofs.Math.Option.{Option, none, some}
 use Rattle.std.specs.List.{slice_get}
 use Rattle.std.specs.declared.option.Option as std
 use Rattle.terms.specs.declared.records.Kind.{Kind}
-use Rattle.terms.specs.declared.records.Kind.TheVariants.{Thing, Number, Predicate}
+use Rattle.terms.specs.declared.records.Kind.TheVariants.{Thing}
 use Rattle.rules.specs.declared.names.Named.{Named}
-use Rattle.rules.specs.declared.names.Named.TheVariants.{Symbol as a_symbol, Term as a_term, Fact as a_fact, Nothing}
+use Rattle.rules.specs.declared.names.Named.TheVariants.{Fact as a_fact}
 use Rattle.rules.specs.declared.names.Symbol.{Symbol}
 
 -- the index of the formula made known, if it is one
 abbrev pub fact_index : std.Option Named → std.Option ℕ
-fact_index None = None
-fact_index (Some (a_symbol s)) = None
-fact_index (Some (a_term i)) = None
 fact_index (Some (a_fact i)) = Some i
-fact_index (Some Nothing) = None
+fact_index o = None
 
 -- the index of the formula that command k made known; commands are numbered from 1
 abbrev pub fact_at : List Named → ℕ → std.Option ℕ
@@ -23,8 +20,7 @@ fact_at names k = cond (k == 0) None (fact_index (slice_get names (k - 1)))
 
 abbrev pub arity_of : Kind → ℕ → std.Option ℕ
 arity_of Thing n = Some n
-arity_of Number n = None
-arity_of Predicate n = None
+arity_of k n = None
 
 abbrev pub thing_arity : std.Option Symbol → std.Option ℕ
 thing_arity None = None

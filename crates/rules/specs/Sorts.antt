@@ -2,48 +2,28 @@
 use Rattle.std.specs.Prelude.{Bool, true, false, ◌&&◌, ◌||◌}
 use Rattle.logic.specs.Tree.{Unary, Binary}
 use Rattle.terms.specs.declared.records.Class.{Class}
-use Rattle.terms.specs.declared.records.Class.TheVariants.{Thing, Things, Number, Formula, Plan, Proof}
+use Rattle.terms.specs.declared.records.Class.TheVariants.{Things, Number, Formula, Plan, Proof}
 use Rattle.rules.specs.Forms.{is_thing}
 
 abbrev pub is_list : Class → Bool
-is_list Thing = false
 is_list Things = true
-is_list Number = false
-is_list Formula = false
-is_list Plan = false
-is_list Proof = false
+is_list c = false
 
 abbrev pub is_number : Class → Bool
-is_number Thing = false
-is_number Things = false
 is_number Number = true
-is_number Formula = false
-is_number Plan = false
-is_number Proof = false
+is_number c = false
 
 abbrev pub is_formula : Class → Bool
-is_formula Thing = false
-is_formula Things = false
-is_formula Number = false
 is_formula Formula = true
-is_formula Plan = false
-is_formula Proof = false
+is_formula c = false
 
 abbrev pub is_plan : Class → Bool
-is_plan Thing = false
-is_plan Things = false
-is_plan Number = false
-is_plan Formula = false
 is_plan Plan = true
-is_plan Proof = false
+is_plan c = false
 
 abbrev pub is_proof : Class → Bool
-is_proof Thing = false
-is_proof Things = false
-is_proof Number = false
-is_proof Formula = false
-is_proof Plan = false
 is_proof Proof = true
+is_proof c = false
 
 -- `eqrefl` takes a thing or a number term
 abbrev pub takes_one : Unary → Class → Bool

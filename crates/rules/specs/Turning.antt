@@ -1,12 +1,12 @@
 -- What a plan's tree turns a formula's tree into: the position that does not fit, or the formulas that its positions take or yield.
-use Rattle.std.specs.Prelude.{ℕ, suc, ◌+◌, Bool, true, false, cond, List, [], ◌∷◌, ◌++◌}
+use Rattle.std.specs.Prelude.{ℕ, suc, ◌+◌, List, [], ◌∷◌, ◌++◌}
 use Rattle.std.proofs.Math.Option.{Option, none, some}
 use Rattle.logic.specs.Syntax as syntax
 use Rattle.logic.specs.Tree as trees
 use Rattle.logic.specs.Tree.{Tree, leaf, unary, binary, thing_tree, put_tree, parts}
 use Rattle.logic.specs.Rules.{◌>>=◌, when}
 use Rattle.logic.specs.Plans.{scope, takes, inner_scope, rejoined}
-use Rattle.rules.specs.Forms.{Form, falsity, implies, denial, conjunction, disjunction, neg, eq, forall, other, form, negated}
+use Rattle.rules.specs.Forms.{Form, conjunction, disjunction, forall, form, negated}
 
 pub data Turned : Type 0 where
   -- the first position that does not fit, counted from 1, heads first
@@ -32,37 +32,16 @@ if_some (some x) w = w x
 -- ---- what a head takes of a shape
 
 abbrev pub body : Form → Option Tree
-body falsity = none
-body (implies t u) = none
-body (denial t u) = none
-body (conjunction t u) = none
-body (disjunction t u) = none
-body (neg t) = none
-body (eq t u) = none
 body (forall t) = some t
-body other = none
+body f = none
 
 abbrev pub conjuncts : Form → Option (Tree × Tree)
-conjuncts falsity = none
-conjuncts (implies t u) = none
-conjuncts (denial t u) = none
 conjuncts (conjunction t u) = some (t, u)
-conjuncts (disjunction t u) = none
-conjuncts (neg t) = none
-conjuncts (eq t u) = none
-conjuncts (forall t) = none
-conjuncts other = none
+conjuncts f = none
 
 abbrev pub disjuncts : Form → Option (Tree × Tree)
-disjuncts falsity = none
-disjuncts (implies t u) = none
-disjuncts (denial t u) = none
-disjuncts (conjunction t u) = none
 disjuncts (disjunction t u) = some (t, u)
-disjuncts (neg t) = none
-disjuncts (eq t u) = none
-disjuncts (forall t) = none
-disjuncts other = none
+disjuncts f = none
 
 abbrev pub negations : Tree × Tree → Tree × Tree
 negations c = (unary trees.neg c.0, unary trees.neg c.1)
@@ -81,41 +60,7 @@ taken_both syntax.recnand χ = negated (form χ) >>= λ a. conjuncts (form a) >>
 -- what the head yields of what its sub-plan yields
 abbrev pub rebuilt : syntax.OneSided → Tree → Tree
 rebuilt syntax.skip ψ = unary trees.forall ψ
-rebuilt (syntax.skol s) ψ = ψ
-rebuilt syntax.recnn ψ = ψ
-
--- ---- plan heads
-
-abbrev pub is_id : trees.Leaf → Bool
-is_id (trees.var i) = false
-is_id trees.nil = false
-is_id (trees.lit n) = false
-is_id trees.falsity = false
-is_id trees.id = true
-is_id (trees.hyp i) = false
-is_id (trees.known k) = false
-
-abbrev pub one_sided_of : trees.Unary → Option syntax.OneSided
-one_sided_of (trees.application k s) = none
-one_sided_of trees.minus = none
-one_sided_of trees.neg = none
-one_sided_of trees.forall = none
-one_sided_of (trees.step h) = some h
-one_sided_of trees.eqrefl = none
-one_sided_of (trees.from r) = none
-
-abbrev pub two_sided_of : trees.Binary → Option syntax.TwoSided
-two_sided_of trees.cons = none
-two_sided_of trees.add = none
-two_sided_of (trees.connect c) = none
-two_sided_of trees.eq = none
-two_sided_of trees.leq = none
-two_sided_of (trees.fork h) = some h
-two_sided_of trees.assume = none
-two_sided_of trees.absurd = none
-two_sided_of trees.eqsub = none
-two_sided_of trees.inst = none
-two_sided_of (trees.from_both r) = none
+rebuilt h ψ = ψ
 
 module _ (arity : ℕ → Option ℕ) where
   -- the formula that the sub-plan takes, if the head fits χ under a scope of n variables
@@ -125,9 +70,10 @@ module _ (arity : ℕ → Option ℕ) where
   taken n syntax.recnn χ = negated (form χ) >>= λ a. negated (form a)
 
   abbrev pub turned : ℕ → Tree → Tree → Turned
-  turned n (leaf x) χ = cond (is_id x) (yields 1 (χ ∷ []) χ) (misfit 1)
-  turned n (unary h p) χ = if_some (one_sided_of h) λ s. if_some (taken n s χ) λ φ. around χ (rebuilt s) (turned (inner_scope s n) p φ)
-  turned n (binary h p q) χ = if_some (two_sided_of h) λ s. if_some (taken_both s χ) λ c. around_both χ (binary (trees.connect (rejoined s))) (turned n p c.0) (turned n q c.1)
+  turned n (leaf trees.id) χ = yields 1 (χ ∷ []) χ
+  turned n (unary (trees.step h) p) χ = if_some (taken n h χ) λ φ. around χ (rebuilt h) (turned (inner_scope h n) p φ)
+  turned n (binary (trees.fork h) p q) χ = if_some (taken_both h χ) λ c. around_both χ (binary (trees.connect (rejoined h))) (turned n p c.0) (turned n q c.1)
+  turned n t χ = misfit 1
 
 -- the parts of each tree, one after the other
 abbrev pub parts_of_trees : List Tree → List Tree

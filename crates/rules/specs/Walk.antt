@@ -8,7 +8,7 @@ use Rattle.logic.specs.Tree as trees
 use Rattle.logic.specs.Tree.{Tree, leaf, unary, binary, parts}
 use Rattle.model.specs.Refusal.{oversized, crowded, unfounded, Outcome, done, refused, ◌>>=◌, ◌>>◌, require_at}
 use Rattle.terms.specs.declared.Terms.{Terms}
-use Rattle.terms.specs.Keeping.{keep_each}
+use Rattle.logic.specs.Keeping.{keep_each}
 use Rattle.terms.specs.Outcome as table
 use Rattle.rules.specs.declared.conclusions.Concluded.{Concluded}
 use Rattle.rules.specs.declared.refusal.Refused.{Refused}
@@ -30,37 +30,23 @@ settled places at ts (some c) =
     >> done (record { next = suc at; terms = keep_each ts (parts c); formula = c })
 
 abbrev pub hypothesis_or_known : (ℕ → Option Tree) → List Tree → trees.Leaf → Option Tree
-hypothesis_or_known made H (trees.var i) = none
-hypothesis_or_known made H trees.nil = none
-hypothesis_or_known made H (trees.lit n) = none
-hypothesis_or_known made H trees.falsity = none
-hypothesis_or_known made H trees.id = none
 hypothesis_or_known made H (trees.hyp i) = get_elem? H i
 hypothesis_or_known made H (trees.known k) = made k
+hypothesis_or_known made H x = none
 
 module _ (places : ℕ) (made : ℕ → Option Tree) where
   -- under the hypotheses H, the newest first, from the position and the terms on
   abbrev pub walk : List Tree → Tree → ℕ → List Tree → Outcome Found
   walk H (leaf x) at ts = settled places at ts (hypothesis_or_known made H x)
-  walk H (unary (trees.application k s) p) at ts = refused unfounded at
-  walk H (unary trees.minus p) at ts = refused unfounded at
-  walk H (unary trees.neg p) at ts = refused unfounded at
-  walk H (unary trees.forall p) at ts = refused unfounded at
-  walk H (unary (trees.step h) p) at ts = refused unfounded at
   walk H (unary trees.eqrefl t) at ts = settled places at ts (some (binary trees.eq t t))
   walk H (unary (trees.from r) p) at ts = walk H p at ts >>= λ f. settled places f.next f.terms (from_one r f.formula)
-  walk H (binary trees.cons t u) at ts = refused unfounded at
-  walk H (binary trees.add t u) at ts = refused unfounded at
-  walk H (binary (trees.connect c) t u) at ts = refused unfounded at
-  walk H (binary trees.eq t u) at ts = refused unfounded at
-  walk H (binary trees.leq t u) at ts = refused unfounded at
-  walk H (binary (trees.fork h) t u) at ts = refused unfounded at
   walk H (binary trees.assume t p) at ts = walk (t ∷ H) p at ts >>= λ f. settled places f.next f.terms (some (binary (trees.connect syntax.implication) t f.formula))
   walk H (binary trees.absurd p t) at ts = walk H p at ts >>= λ f. settled places f.next f.terms (absurdity (form f.formula) t)
   walk H (binary trees.eqsub p t) at ts = walk H p at ts >>= λ f. settled places f.next f.terms (replaced (form f.formula) t)
   walk H (binary trees.inst t p) at ts = walk H p at ts >>= λ f. settled places f.next f.terms (instantiated (form f.formula) t)
   walk H (binary (trees.from_both r) p q) at ts =
       walk H p at ts >>= λ f. walk H q f.next f.terms >>= λ g. settled places g.next g.terms (from_two r f.formula g.formula)
+  walk H t at ts = refused unfounded at
 
 -- ---- what a call answers
 
@@ -71,7 +57,6 @@ answered T (Err e) = refused (refusal e.reason) e.position
 
 -- the call answers the outcome; what was kept stands in front; a conclusion's index is in the table
 pub record Answers (old new : Terms) (o : Outcome Found) (answer : Result Concluded Refused) : Type 0 where
-  pub well_formed : table.WellFormed new
   pub same_room : table.room new ≡ table.room old
   pub front : take (table.count old) (table.entries new) ≡ table.entries old
   pub outcome : answered new answer ≡ o

@@ -1,10 +1,10 @@
 // The stack of hypotheses that a proof is concluded under.
-ghost use Rattle.std.specs.Prelude.{◌≡◌, ℕ, ◌≤◌, length, None, slice_index_or};
+ghost use Rattle.std.specs.Prelude.{◌≡◌, ℕ, length, None, slice_index_or};
 ghost use Rattle.std.proofs.Math.ListN.{get_elem?};
 ghost use Rattle.logic.specs.Tree.{Tree};
 ghost use Rattle.rules.specs.Stack.{stacked, named};
 
-// How high the stack is.
+// How high the stack is; its cells are lent by the caller, for there is no heap.
 #[derive(Clone, Copy)]
 pub struct Depth {
     pub height: usize,
@@ -22,23 +22,16 @@ impl Drop for Guard<'_> {
     }
 }
 
-// The hypothesis counted outwards from the newest, which is 0.
-pub fn hypothesis(cells: &[u32], height: usize, k: u32) -> Option<u32>
-    requires { height ≤ length cells.now }
-    ensures { (f : ℕ → Tree) → named f result ≡ get_elem? (stacked f cells.now height) k }
+// The hypothesis counted outwards from the newest, which stands last and is 0.
+pub fn hypothesis(stack: &[u32], k: u32) -> Option<u32>
+    ensures { (f : ℕ → Tree) → named f result ≡ get_elem? (stacked f stack.now (length stack.now)) k }
 {
-    let k = k as usize;
-    if k < height {
-        Some(cells[height - k - 1])
-    } else {
-        None
-    }
+    stack.iter().rev().nth(k as usize).copied()
 }
 
 // What command k made known, if it did.
 pub fn made(known: &[Option<u32>], k: u32) -> Option<u32>
     ensures { result ≡ slice_index_or known.now k None }
 {
-    let k = k as usize;
-    if k < known.len() { known[k] } else { None }
+    *known.get(k as usize)?
 }

@@ -1,11 +1,10 @@
-// The rules on the table: conclusions, Skolemisation, facts.
+// The rules on the table: conclusions, facts, names.
 #![tactic(auto)]
 
 pub mod conclusions;
-pub mod draft;
+mod draft;
 pub mod facts;
 pub mod hypotheses;
-mod making;
 pub mod names;
 pub mod refusal;
 mod shapes;

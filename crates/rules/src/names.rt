@@ -26,10 +26,7 @@ pub enum Named {
 pub fn known(results: &Log<Named>, k: u32) -> Option<u32>
     ensures { result ≡ fact_at (logged results.now) k }
 {
-    if k == 0 {
-        return None;
-    }
-    match results.get(k as usize - 1) {
+    match results.get(k.checked_sub(1)? as usize) {
         Some(Named::Fact(i)) => Some(i),
         _ => None,
     }

@@ -1,13 +1,14 @@
 -- Entries that are apart: each has one place, and they stay apart as entries are appended or forgotten.
-use Rattle.std.proofs.Common.{◌≡◌, ℕ, zero, suc, Bool, true, false, cond, ◌||◌, List, [], ◌∷◌, ◌++◌, length, take, Some, None, sym, refl, ap, ◌∙◌, subst, inl, inr, arith}
+use Rattle.std.proofs.Common.{◌≡◌, ℕ, zero, suc, Bool, true, false, cond, ◌||◌, List, [], ◌∷◌, ◌++◌, length, take, Some, None, sym, refl, ap, ◌∙◌, inl, inr}
 use mathlib.Core.Bool.{false≢true}
 use Rattle.std.specs.List.{slice_get}
 use Rattle.std.proofs.lemmas.Bool.{cases_Bool, or_parts, or_from, or_left, or_right}
-use Rattle.table.specs.Sameness.{Equivalence, has, before, first, Apart, Stands, FirstIsTheOne}
+use Rattle.std.specs.Cmp.{IsEquivalence}
+use Rattle.table.specs.Sameness.{has, before, first, Apart, Stands, FirstIsTheOne}
 
 module _ {E : Type 0} (same : E → E → Bool) where
   pub has_at : (l : List E) (i : ℕ) (x e : E) → slice_get l i ≡ Some x → same x e ≡ true → has same l e ≡ true
-  has_at [] i x e at t = let z : ◌≡◌ {A = ℕ} 0 1 = cc in absurd (omega arith)
+  has_at [] i x e at t = cc
   has_at (y ∷ l) zero x e at t = or_left (same y e) (has same l e) (cc)
   has_at (y ∷ l) (suc i) x e at t = or_right (same y e) (has same l e) (has_at l i x e at t)
 
@@ -21,13 +22,12 @@ module _ {E : Type 0} (same : E → E → Bool) where
   first_stands l e i h =
       elim (cases_Bool (has same l e)) [
         | inl t ↦
-            let at = ap (λ b. cond b (Some (before same l e)) None) (sym t) ∙ h in
+            let at = rw t at h in
             let place : before same l e ≡ i = cc in
-            subst (λ j. Stands same l e j) place (stands_first l e t)
+            rw (← place) (stands_first l e t)
         | inr f ↦
-            let at = ap (λ b. cond b (Some (before same l e)) None) (sym f) ∙ h in
-            let z : ◌≡◌ {A = ℕ} 0 1 = cc in
-            absurd (omega arith)
+            let at = rw f at h in
+            cc
       ]
 
   pub stands_last : (l : List E) (e : E) → same e e ≡ true → Stands same (l ++ e ∷ []) e (length l)
@@ -46,9 +46,9 @@ module _ {E : Type 0} (same : E → E → Bool) where
   apart_take (suc n) [] a = tt
   apart_take (suc n) (x ∷ l) a = (has_take n l x a.0, apart_take n l a.1)
 
-  module _ (q : Equivalence same) where
+  module _ (q : IsEquivalence same) where
     pub differs : (x y : E) → same x y ≡ false → same y x ≡ false
-    differs x y no_xy = elim (cases_Bool (same y x)) [ inl t ↦ absurd (false≢true (sym no_xy ∙ q.symmetric y x t)) | inr f ↦ f ]
+    differs x y no_xy = sym (q.symm x y) ∙ no_xy
 
     has_last_not : (l : List E) (e x : E) → has same l x ≡ false → same e x ≡ false → has same (l ++ e ∷ []) x ≡ false
     has_last_not [] e x h n = or_from (same e x) false n refl
@@ -67,15 +67,13 @@ module _ {E : Type 0} (same : E → E → Bool) where
     only_first l a e i s = ap (λ b. cond b (Some (before same l e)) None) (has_at l i s.0 e s.1 s.2) ∙ ap Some (place l a i s)
       where
         place : (l : List E) → Apart same l → (i : ℕ) → Stands same l e i → before same l e ≡ i
-        place [] a i s = let at = s.1 in let z : ◌≡◌ {A = ℕ} 0 1 = cc in absurd (omega arith)
+        place [] a i s = cc
         place (x ∷ l) a zero s =
-            let at = s.1 in
-            let t = s.2 in
             let here : same x e ≡ true = cc in
             ap (λ b. cond b 0 (suc (before same l e))) here
         place (x ∷ l) a (suc i) s =
             elim (cases_Bool (same x e)) [
-              | inl t ↦ absurd (false≢true (sym a.0 ∙ has_at l i s.0 x s.1 (q.transitive s.0 e x s.2 (q.symmetric x e t))))
+              | inl t ↦ absurd (false≢true (sym a.0 ∙ has_at l i s.0 x s.1 (q.congr s.0 e x s.2 ∙ sym (q.symm x e) ∙ t)))
               | inr f ↦ ap (λ b. cond b 0 (suc (before same l e))) f ∙ ap suc (place l a.1 i s)
             ]
 
@@ -86,7 +84,7 @@ module _ {E : Type 0} (same : E → E → Bool) where
         cc
 
     pub own_place : (l : List E) → Apart same l → (e : E) (i : ℕ) → slice_get l i ≡ Some e → first same l e ≡ Some i
-    own_place l a e i at = only_first l a e i (e, at, q.reflexive e)
+    own_place l a e i at = only_first l a e i (e, at, q.refl e)
 
     pub first_is_the_one : FirstIsTheOne same
     first_is_the_one = record { stands = first_stands; only = only_first; at_most_one = at_most_one; own_place = own_place }

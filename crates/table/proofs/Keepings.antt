@@ -3,7 +3,8 @@ use Rattle.std.proofs.Common.{◌≡◌, ℕ, ◌≤◌, Bool, true, false, cond
 use mathlib.Core.Bool.{false≢true}
 use Rattle.std.proofs.lemmas.Bool.{cases_Bool, or_cases, or_parts, or_from, or_left, or_right, ltb-true, ltb-false}
 use Rattle.std.proofs.lemmas.List.{append-nil, append_assoc, take_all, take-append-le, length-append}
-use Rattle.table.specs.Sameness.{Equivalence, has, Apart}
+use Rattle.std.specs.Cmp.{IsEquivalence}
+use Rattle.table.specs.Sameness.{has, Apart}
 use Rattle.table.specs.Keeping.{keep_each, keep_each_in}
 use Rattle.table.specs.Theorems.{without, first_appearances, KeepsFirstAppearances}
 use Rattle.table.proofs.Aparts.{differs}
@@ -27,19 +28,18 @@ module _ {E : Type 0} (same : E → E → Bool) where
   minus_last : (l : List E) (e : E) (m : List E) → minus (l ++ e ∷ []) m ≡ minus l (without same e m)
   minus_last l e [] = refl
   minus_last l e (y ∷ m) =
-      ap (λ b. cond b (minus (l ++ e ∷ []) m) (y ∷ minus (l ++ e ∷ []) m)) (has_last l e y)
-      ∙ ap (λ r. cond (has same l y || same e y) r (y ∷ r)) (minus_last l e m)
-      ∙ elim (same e y) as (λ b. cond (has same l y || b) (minus l (without same e m)) (y ∷ minus l (without same e m)) ≡ minus l (cond b (without same e m) (y ∷ without same e m))) [
-        | true ↦ elim (has same l y) as (λ b. cond (b || true) (minus l (without same e m)) (y ∷ minus l (without same e m)) ≡ minus l (without same e m)) [ true ↦ refl | false ↦ refl ]
-        | false ↦ elim (has same l y) as (λ b. cond (b || false) (minus l (without same e m)) (y ∷ minus l (without same e m)) ≡ cond b (minus l (without same e m)) (y ∷ minus l (without same e m))) [ true ↦ refl | false ↦ refl ]
-      ]
+      rw (has_last l e y, minus_last l e m)
+      (elim (cases_Bool (same e y)) [
+        | inl t ↦ elim (cases_Bool (has same l y)) [ inl h ↦ rw (t, h) | inr n ↦ rw (t, n) ]
+        | inr f ↦ elim (cases_Bool (has same l y)) [ inl h ↦ rw (f, h) | inr n ↦ rw (f, n) ]
+      ])
 
-  module _ (q : Equivalence same) where
+  module _ (q : IsEquivalence same) where
     has_like : (l : List E) (e y : E) → has same l e ≡ true → same e y ≡ true → has same l y ≡ true
     has_like [] e y h t = absurd (false≢true h)
     has_like (x ∷ l) e y h t =
         elim (or_cases (same x e) (has same l e) h) [
-          | inl u ↦ or_left (same x y) (has same l y) (q.transitive x e y u t)
+          | inl u ↦ or_left (same x y) (has same l y) (q.congr x e y u ∙ t)
           | inr k ↦ or_right (same x y) (has same l y) (has_like l e y k t)
         ]
 
@@ -47,13 +47,8 @@ module _ {E : Type 0} (same : E → E → Bool) where
     minus_had l e h [] = refl
     minus_had l e h (y ∷ m) =
         elim (cases_Bool (same e y)) [
-          | inl t ↦
-              ap (λ b. minus l (cond b (without same e m) (y ∷ without same e m))) t
-              ∙ minus_had l e h m
-              ∙ sym (ap (λ b. cond b (minus l m) (y ∷ minus l m)) (has_like l e y h t))
-          | inr f ↦
-              ap (λ b. minus l (cond b (without same e m) (y ∷ without same e m))) f
-              ∙ ap (λ r. cond (has same l y) r (y ∷ r)) (minus_had l e h m)
+          | inl t ↦ rw (t, has_like l e y h t) (minus_had l e h m)
+          | inr f ↦ rw (f, minus_had l e h m)
         ]
 
     -- what is appended is what was not there, at its first appearance
@@ -61,17 +56,8 @@ module _ {E : Type 0} (same : E → E → Bool) where
     keep_each_is l [] = sym (append-nil l)
     keep_each_is l (e ∷ es) =
         elim (cases_Bool (has same l e)) [
-          | inl h ↦
-              ap (λ b. keep_each same (cond b l (l ++ e ∷ [])) es) h
-              ∙ keep_each_is l es
-              ∙ ap (λ r. l ++ r) (sym (minus_had l e h (first_appearances same es)))
-              ∙ ap (λ b. l ++ cond b (minus l (without same e (first_appearances same es))) (e ∷ minus l (without same e (first_appearances same es)))) (sym h)
-          | inr f ↦
-              ap (λ b. keep_each same (cond b l (l ++ e ∷ [])) es) f
-              ∙ keep_each_is (l ++ e ∷ []) es
-              ∙ ap (λ r. (l ++ e ∷ []) ++ r) (minus_last l e (first_appearances same es))
-              ∙ append_assoc l (e ∷ []) (minus l (without same e (first_appearances same es)))
-              ∙ ap (λ b. l ++ cond b (minus l (without same e (first_appearances same es))) (e ∷ minus l (without same e (first_appearances same es)))) (sym f)
+          | inl h ↦ rw (h, minus_had l e h (first_appearances same es)) (keep_each_is l es)
+          | inr f ↦ rw (f, keep_each_is (l ++ e ∷ []) es, minus_last l e (first_appearances same es), append_assoc)
         ]
 
     pub keep_each_empty : (es : List E) → keep_each same [] es ≡ first_appearances same es
@@ -91,29 +77,18 @@ module _ {E : Type 0} (same : E → E → Bool) where
     pub keep_each_in_is : (n : ℕ) (l es : List E) → length l ≤ n → keep_each_in same n l es ≡ take n (keep_each same l es)
     keep_each_in_is n l [] fits = sym (take_all n l fits)
     keep_each_in_is n l (e ∷ es) fits =
-        let more = cond (ltb (length l) n) (l ++ e ∷ []) l in
         elim (cases_Bool (has same l e)) [
-          | inl h ↦
-              ap (λ b. keep_each_in same n (cond b l more) es) h
-              ∙ keep_each_in_is n l es fits
-              ∙ ap (λ b. take n (keep_each same (cond b l (l ++ e ∷ [])) es)) (sym h)
-          | inr f ↦
-              ap (λ b. keep_each_in same n (cond b l more) es) f
-              ∙ elim (cases_Bool (ltb (length l) n)) [
-                | inl t ↦
-                    let left = ltb-true (length l) n t in
-                    let grown = length-append l (e ∷ []) in
-                    ap (λ b. keep_each_in same n (cond b (l ++ e ∷ []) l) es) t ∙ keep_each_in_is n (l ++ e ∷ []) es (omega arith)
-                | inr u ↦
-                    let none_left = ltb-false (length l) n u in
-                    let full : length l ≡ n = omega arith in
-                    ap (λ b. keep_each_in same n (cond b (l ++ e ∷ []) l) es) u
-                    ∙ keep_each_in_is n l es fits
-                    ∙ ap (λ k. take n (keep_each same k es)) (sym (append-nil l))
-                    ∙ front n l [] es full
-                    ∙ sym (front n l (e ∷ []) es full)
-              ]
-              ∙ ap (λ b. take n (keep_each same (cond b l (l ++ e ∷ [])) es)) (sym f)
+          | inl h ↦ rw h (keep_each_in_is n l es fits)
+          | inr f ↦ elim (cases_Bool (ltb (length l) n)) [
+            | inl t ↦
+                let left = ltb-true (length l) n t in
+                let grown = length-append l (e ∷ []) in
+                rw (f, t) (keep_each_in_is n (l ++ e ∷ []) es (omega arith))
+            | inr u ↦
+                let none_left = ltb-false (length l) n u in
+                let full : length l ≡ n = omega arith in
+                rw (f, u, front n l (e ∷ []) es full) (keep_each_in_is n l es fits ∙ rw append-nil at (front n l [] es full))
+          ]
         ]
 
     pub room_suffices : (n : ℕ) (l es : List E) → length (keep_each same l es) ≤ n → keep_each_in same n l es ≡ keep_each same l es
@@ -136,8 +111,8 @@ module _ {E : Type 0} (same : E → E → Bool) where
     has_without_own x [] = refl
     has_without_own x (z ∷ m) =
         elim (cases_Bool (same x z)) [
-          | inl t ↦ ap (λ b. has same (cond b (without same x m) (z ∷ without same x m)) x) t ∙ has_without_own x m
-          | inr f ↦ ap (λ b. has same (cond b (without same x m) (z ∷ without same x m)) x) f ∙ or_from (same z x) (has same (without same x m) x) (differs same q x z f) (has_without_own x m)
+          | inl t ↦ rw t (has_without_own x m)
+          | inr f ↦ rw f (or_from (same z x) (has same (without same x m) x) (differs same q x z f) (has_without_own x m))
         ]
 
     apart_without : (x : E) (m : List E) → Apart same m → Apart same (without same x m)
@@ -155,17 +130,12 @@ module _ {E : Type 0} (same : E → E → Bool) where
     has_without x e n [] = refl
     has_without x e n (z ∷ m) =
         elim (cases_Bool (same x z)) [
-          | inl t ↦
-              ap (λ b. has same (cond b (without same x m) (z ∷ without same x m)) e) t
-              ∙ has_without x e n m
-              ∙ ap (λ b. b || has same m e) (sym (not_either (cases_Bool (same z e)) t))
-          | inr f ↦
-              ap (λ b. has same (cond b (without same x m) (z ∷ without same x m)) e) f
-              ∙ ap (λ b. same z e || b) (has_without x e n m)
+          | inl t ↦ rw (t, not_either (cases_Bool (same z e)) t) (has_without x e n m)
+          | inr f ↦ rw (f, has_without x e n m)
         ]
       where
         not_either : (same z e ≡ true) ⊎ (same z e ≡ false) → same x z ≡ true → same z e ≡ false
-        not_either (inl u) t = absurd (false≢true (sym n ∙ q.transitive x z e t u))
+        not_either (inl u) t = absurd (false≢true (sym n ∙ q.congr x z e t ∙ u))
         not_either (inr f) t = f
 
     pub has_first_appearances : (es : List E) (e : E) → has same (first_appearances same es) e ≡ has same es e

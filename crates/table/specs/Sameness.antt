@@ -2,11 +2,6 @@
 use Rattle.std.specs.Prelude.{◌≡◌, ℕ, suc, Bool, true, false, cond, ◌||◌, List, [], ◌∷◌, Some, None, Option}
 use Rattle.std.specs.List.{slice_get}
 
-pub record Equivalence {E : Type 0} (same : E → E → Bool) : Type 0 where
-  pub reflexive : (x : E) → same x x ≡ true
-  pub symmetric : (x y : E) → same x y ≡ true → same y x ≡ true
-  pub transitive : (x y z : E) → same x y ≡ true → same y z ≡ true → same x z ≡ true
-
 module _ {E : Type 0} (same : E → E → Bool) where
   -- some entry is the same as e
   abbrev pub has : List E → E → Bool

@@ -1,49 +1,32 @@
 // A table over a lent slice that keeps each entry once.
 #![tactic(auto)]
 
-ghost use Rattle.std.specs.Prelude.{◌≡◌, ◌<◌, ◌≤◌, Bool, true, false, [], ◌∷◌, ◌++◌, length, take, MatchResult};
+ghost use Rattle.std.specs.Prelude.{◌≡◌, ◌≤◌, [], length, take, MatchResult};
 ghost use Rattle.std.specs.List.{slice_get};
 ghost use Rattle.table.specs.Contents.{kept, places};
 ghost use Rattle.table.specs.Keeping.{answer, index, keep_in};
 ghost use Rattle.table.specs.Theorems.{KeepsFirstAppearances, RoomSuffices};
-ghost use Rattle.table.specs.Sameness.{has, first, Apart, Stands, FirstIsTheOne};
+ghost use Rattle.table.specs.Sameness.{first, Apart, Stands, FirstIsTheOne};
 
 pub mod log;
 
-// A kind of entry with a test of sameness.
-pub trait Same: Copy {
-    ghost same: { Self → Self → Bool };
+use log::Log;
 
-    fn same_as(&self, other: &Self) -> bool
-        ensures { result ≡ same self.now other.now };
-
-    ghost reflexive: { (x : Self) → same x x ≡ true };
-
-    ghost symmetric: { (x y : Self) → same x y ≡ true → same y x ≡ true };
-
-    ghost transitive: { (x y z : Self) → same x y ≡ true → same y z ≡ true → same x z ≡ true };
-}
-
-// The place of the first entry that is the same as `e`; where entries are apart, the only one.
-pub fn first_same<E: Same>(entries: &[E], e: &E) -> Option<usize>
-    ensures first { result ≡ first E.same entries.now e.now }
-    ensures only { FirstIsTheOne E.same }
+// The place of the first entry that is equal to `e`; where entries are apart, the only one.
+// A search from the front, since the memory is lent: there is none for an index.
+pub fn first_same<E: Eq>(entries: &[E], e: &E) -> Option<usize>
+    ensures first { result ≡ first E.eq entries.now e.now }
+    ensures only { FirstIsTheOne E.eq }
 {
-    for i in 0..entries.len() {
-        if entries[i].same_as(e) {
-            return Some(i);
-        }
-    }
-    None
+    entries.iter().position(|x| x == e)
 }
 
 #[derive(Drop)]
-pub struct Table<'a, E: Same> {
-    slots: &'a mut [E],
-    used: usize,
+pub struct Table<'a, E: Copy> {
+    log: Log<'a, E>,
 }
 
-// Where an entry is kept: where one that is the same stood already, or at the end.
+// Where an entry is kept: where one that is equal stood already, or at the end. Neither is a failure, so this is no Result.
 #[derive(Clone, Copy, PartialEq, Eq, Debug)]
 pub enum Place {
     Found(usize),
@@ -64,13 +47,15 @@ impl Place {
 #[derive(Clone, Copy, PartialEq, Eq, Debug)]
 pub struct Full;
 
-impl<'a, E: Same> Table<'a, E> {
+impl<'a, E: Copy> Table<'a, E> {
     // An empty table over lent memory, whatever that holds.
     pub fn over(slots: &'a mut [E]) -> Table<'a, E>
         ensures kept { kept result ≡ [] }
         ensures places { places result ≡ length slots.old }
     {
-        Table { slots, used: 0 }
+        Table {
+            log: Log::over(slots),
+        }
     }
 
     // The entries kept, in the order in which they came.
@@ -78,12 +63,7 @@ impl<'a, E: Same> Table<'a, E> {
         ensures kept { result.now ≡ kept self.now }
         ensures within { length result.now ≤ places self.now }
     {
-        let slots = &*self.slots;
-        if self.used < slots.len() {
-            &slots[0..self.used]
-        } else {
-            slots
-        }
+        self.log.entries()
     }
 
     // How many entries are kept.
@@ -91,105 +71,69 @@ impl<'a, E: Same> Table<'a, E> {
         ensures count { result ≡ length (kept self.now) }
         ensures within { result ≤ places self.now }
     {
-        self.entries().len()
+        self.log.len()
     }
 
     // How many there are places for.
     pub fn room(&self) -> usize
         ensures { result ≡ places self.now }
     {
-        self.slots.len()
+        self.log.capacity()
     }
 
     pub fn get(&self, i: usize) -> Option<E>
         ensures { result ≡ slice_get (kept self.now) i }
     {
-        read(self.entries(), i)
+        self.log.get(i)
     }
+}
 
-    // The place of the entry that is the same as `e`.
+impl<'a, E: Copy + Eq> Table<'a, E> {
+    // The place of the entry that is equal to `e`.
     pub fn find(&self, e: &E) -> Option<usize>
-        ensures first { result ≡ first E.same (kept self.now) e.now }
-        ensures only { FirstIsTheOne E.same }
+        ensures first { result ≡ first E.eq (kept self.now) e.now }
+        ensures only { FirstIsTheOne E.eq }
     {
         first_same(self.entries(), e)
     }
 
-    // Keeps `e`, unless one that is the same is kept already; with no place left nothing changes.
+    // Keeps `e`, unless one that is equal is kept already; with no place left nothing changes.
     pub fn keep(&mut self, e: E) -> Result<Place, Full>
-        ensures answer { result ≡ answer E.same (places self.old) (kept self.old) e }
-        ensures kept { kept self.new ≡ keep_in E.same (places self.old) (kept self.old) e }
+        ensures answer { result ≡ answer E.eq (places self.old) (kept self.old) e }
+        ensures kept { kept self.new ≡ keep_in E.eq (places self.old) (kept self.old) e }
         ensures places { places self.new ≡ places self.old }
-        ensures stands { MatchResult result (λ p. Stands E.same (kept self.new) e (index p)) (λ _. length (kept self.old) ≡ places self.old) }
-        ensures apart { Apart E.same (kept self.old) → Apart E.same (kept self.new) }
+        ensures stands { MatchResult result (λ p. Stands E.eq (kept self.new) e (index p)) (λ _. length (kept self.old) ≡ places self.old) }
+        ensures apart { Apart E.eq (kept self.old) → Apart E.eq (kept self.new) }
     {
         if let Some(at) = self.find(&e) {
             return Ok(Place::Found(at));
         }
-        if self.len() >= self.room() {
-            return Err(Full);
-        }
-        Ok(Place::Added(self.append(e)))
-    }
-
-    fn append(&mut self, e: E) -> usize
-        requires { length (kept self.old) < places self.old }
-        ensures place { result ≡ length (kept self.old) }
-        ensures kept { kept self.new ≡ kept self.old ++ e ∷ [] }
-        ensures places { places self.new ≡ places self.old }
-        ensures stands { Stands E.same (kept self.new) e result }
-        ensures apart { has E.same (kept self.old) e ≡ false → Apart E.same (kept self.old) → Apart E.same (kept self.new) }
-    {
-        let used = self.len();
-        self.slots[used] = e;
-        self.used = used + 1;
-        used
+        let end = self.len();
+        self.log.push(e)?;
+        Ok(Place::Added(end))
     }
 
     // Forgets the entries from place `n` on.
     pub fn truncate(&mut self, n: usize)
         ensures kept { kept self.new ≡ take n (kept self.old) }
         ensures places { places self.new ≡ places self.old }
-        ensures apart { Apart E.same (kept self.old) → Apart E.same (kept self.new) }
+        ensures apart { Apart E.eq (kept self.old) → Apart E.eq (kept self.new) }
     {
-        if n < self.len() {
-            self.cut(n);
-        }
-    }
-
-    fn cut(&mut self, n: usize)
-        requires { n < length (kept self.old) }
-        ensures kept { kept self.new ≡ take n (kept self.old) }
-        ensures places { places self.new ≡ places self.old }
-        ensures apart { Apart E.same (kept self.old) → Apart E.same (kept self.new) }
-    {
-        self.used = n;
-    }
-}
-
-fn read<E: Copy>(entries: &[E], i: usize) -> Option<E>
-    ensures { result ≡ slice_get entries.now i }
-{
-    if i < entries.len() {
-        Some(entries[i])
-    } else {
-        None
+        self.log.truncate(n)
     }
 }
 
 // Keeping each of any entries, from an empty table on, keeps each once, in the order of first appearance.
-pub fn keeping_each_keeps_first_appearances<E: Same>() -> u8
-    ensures { KeepsFirstAppearances E.same }
-{
-    0
-}
+#[tactic(auto, using(crate::proofs::Keepings::keeps_first_appearances))]
+pub fn keeping_each_keeps_first_appearances<E: Eq>()
+    ensures { KeepsFirstAppearances E.eq }
+{}
 
 // Where there is room, a table keeps as if it had no end.
-pub fn room_suffices<E: Same>() -> u8
-    ensures { RoomSuffices E.same }
-{
-    0
-}
+#[tactic(auto, using(crate::proofs::Keepings::room_suffices))]
+pub fn room_suffices<E: Eq>()
+    ensures { RoomSuffices E.eq }
+{}
 
 #[cfg(test)]
 mod tests;

@@ -3,12 +3,13 @@ ghost use Rattle.std.specs.Prelude.{◌≡◌, ◌<◌, ◌≤◌, [], ◌∷◌
 ghost use Rattle.std.specs.List.{slice_get};
 ghost use Rattle.table.specs.Logged.{logged, capacity};
 
-use crate::{Full, read};
+use crate::Full;
 
+// A slice with a length, since the memory is the caller's; no heap is used. No ghost field says that `used` is within, since `take` asks for nothing.
 #[derive(Drop)]
 pub struct Log<'a, E: Copy> {
-    slots: &'a mut [E],
-    used: usize,
+    pub(crate) slots: &'a mut [E],
+    pub(crate) used: usize,
 }
 
 impl<'a, E: Copy> Log<'a, E> {
@@ -25,12 +26,7 @@ impl<'a, E: Copy> Log<'a, E> {
         ensures logged { result.now ≡ logged self.now }
         ensures within { length result.now ≤ capacity self.now }
     {
-        let slots = &*self.slots;
-        if self.used < slots.len() {
-            &slots[0..self.used]
-        } else {
-            slots
-        }
+        &self.slots[..self.used.min(self.capacity())]
     }
 
     pub fn len(&self) -> usize
@@ -50,7 +46,7 @@ impl<'a, E: Copy> Log<'a, E> {
     pub fn get(&self, i: usize) -> Option<E>
         ensures { result ≡ slice_get (logged self.now) i }
     {
-        read(self.entries(), i)
+        self.entries().get(i).copied()
     }
 
     // Puts an entry at the end; with no place left nothing changes.
@@ -58,21 +54,14 @@ impl<'a, E: Copy> Log<'a, E> {
         ensures logged { MatchResult result (λ _. (length (logged self.old) < capacity self.old) × (logged self.new ≡ logged self.old ++ e ∷ [])) (λ _. (length (logged self.old) ≡ capacity self.old) × (logged self.new ≡ logged self.old)) }
         ensures capacity { capacity self.new ≡ capacity self.old }
     {
-        if self.len() >= self.capacity() {
+        // Tested and written by index: of what a `get_mut` lends, a caller does not know which entry it is.
+        let used = self.len();
+        if used >= self.capacity() {
             return Err(Full);
         }
-        self.append(e);
-        Ok(())
-    }
-
-    fn append(&mut self, e: E)
-        requires { length (logged self.old) < capacity self.old }
-        ensures logged { logged self.new ≡ logged self.old ++ e ∷ [] }
-        ensures capacity { capacity self.new ≡ capacity self.old }
-    {
-        let used = self.len();
         self.slots[used] = e;
         self.used = used + 1;
+        Ok(())
     }
 
     // Forgets the entries from place `n` on.
@@ -80,8 +69,6 @@ impl<'a, E: Copy> Log<'a, E> {
         ensures logged { logged self.new ≡ take n (logged self.old) }
         ensures capacity { capacity self.new ≡ capacity self.old }
     {
-        if n < self.len() {
-            self.used = n;
-        }
+        self.used = self.used.min(n);
     }
 }

@@ -1,52 +1,18 @@
 // Two kinds of entry, and tables of both in one struct.
-ghost use Rattle.std.specs.Prelude.{◌≡◌, false, ◌&&◌, ◌==◌, nat_eq};
+ghost use Rattle.std.specs.Prelude.{◌≡◌};
 ghost use Rattle.table.specs.Contents.{kept, places};
 ghost use Rattle.table.specs.Keeping.{keep_in};
 ghost use Rattle.table.specs.Sameness.{Apart};
-ghost use Rattle.table.specs.declared.tests.Shape.TheVariants.{Leaf, Pair};
-ghost use Rattle.std.proofs.Common.{rules};
 
 use super::*;
 
 #[derive(Clone, Copy, PartialEq, Eq, Debug)]
 struct Symbol(u32);
 
-impl Same for Symbol {
-    ghost same = { λ x y. (x.0 == y.0) };
-
-    ghost reflexive = { Prim.search rules };
-
-    ghost symmetric = { Prim.search rules };
-
-    ghost transitive = { Prim.search rules };
-
-    fn same_as(&self, other: &Symbol) -> bool {
-        self.0 == other.0
-    }
-}
-
 #[derive(Clone, Copy, PartialEq, Eq, Debug)]
 enum Shape {
     Leaf(u32),
     Pair(usize, usize),
-}
-
-impl Same for Shape {
-    ghost same = { λ x y. elim x [ Leaf n ↦ elim y [ Leaf m ↦ nat_eq n m | Pair c d ↦ false ] | Pair a b ↦ elim y [ Leaf m ↦ false | Pair c d ↦ (a == c) && nat_eq b d ] ] };
-
-    ghost reflexive = { Prim.search rules };
-
-    ghost symmetric = { Prim.search rules };
-
-    ghost transitive = { Prim.search rules };
-
-    fn same_as(&self, other: &Shape) -> bool {
-        match (*self, *other) {
-            (Shape::Leaf(n), Shape::Leaf(m)) => n == m,
-            (Shape::Pair(a, b), Shape::Pair(c, d)) => a == c && b == d,
-            _ => false,
-        }
-    }
 }
 
 #[test]
@@ -69,8 +35,8 @@ struct Terms<'a> {
 impl Terms<'_> {
     // Names a symbol and keeps its leaf.
     fn leaf(&mut self, symbol: Symbol) -> Result<usize, Full>
-        ensures symbols { kept self.new.symbols ≡ keep_in (λ x y. nat_eq x.0 y.0) (places self.old.symbols) (kept self.old.symbols) symbol }
-        ensures apart { Apart (λ x y. nat_eq x.0 y.0) (kept self.old.symbols) → Apart (λ x y. nat_eq x.0 y.0) (kept self.new.symbols) }
+        ensures symbols { kept self.new.symbols ≡ keep_in ⟦<Symbol as PartialEq>⟧.eq (places self.old.symbols) (kept self.old.symbols) symbol }
+        ensures apart { Apart ⟦<Symbol as PartialEq>⟧.eq (kept self.old.symbols) → Apart ⟦<Symbol as PartialEq>⟧.eq (kept self.new.symbols) }
         ensures places { places self.new.shapes ≡ places self.old.shapes }
     {
         let _ = self.symbols.keep(symbol)?;

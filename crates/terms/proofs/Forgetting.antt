@@ -1,16 +1,16 @@
 -- Forgetting terms from an index on, and the parts of a kept term.
-use Rattle.std.proofs.Common.{◌≡◌, ℕ, ◌<◌, ◌≤◌, min, true, ltb, List, [], ◌∷◌, ◌++◌, length, take, drop, is_err, Ok, Err, Result, sym, ap, ◌∙◌, subst, arith}
+use Rattle.std.proofs.Common.{◌≡◌, ℕ, ◌<◌, min, true, ltb, List, [], ◌∷◌, ◌++◌, length, take, drop, is_err, Ok, Err, Result, sym, ap, ◌∙◌, arith}
 use Rattle.std.proofs.lemmas.Bool.{lt-ltb, le-ltb}
 use Rattle.std.proofs.lemmas.List.{take-append-drop, length-take, get_or-take, ext_get_or}
-use Rattle.logic.specs.Tree.{Tree, leaf, nil, parts, operands, size, unary, binary}
+use Rattle.logic.specs.Tree.{Tree, leaf, nil, parts, operands, unary, binary}
 use Rattle.table.specs.declared.Full.{Full}
 use Rattle.table.proofs.Aparts.{apart_take}
 use Rattle.terms.specs.declared.Terms.{Terms}
 use Rattle.terms.specs.declared.records.Entry.{Entry}
-use Rattle.terms.specs.Nodes.{after, same_entry}
-use Rattle.terms.specs.Keeping.{has, keep_each, HasEach}
-use Rattle.terms.specs.Meaning.{entry, trees_of, tree_of, largest, Measures, Sound}
-use Rattle.terms.specs.Outcome.{entries, count, room, trees, tree, WellFormed, Did}
+use Rattle.terms.specs.Nodes.{same_entry}
+use Rattle.logic.specs.Keeping.{has, keep_each, HasEach}
+use Rattle.terms.specs.Meaning.{entry, trees_of, tree_of, Sound}
+use Rattle.terms.specs.Outcome.{entries, count, most, trees, tree, Did}
 use Rattle.terms.specs.Theorems.{KeptOnce, MeaningsLast, RefusedForWantOfRoom}
 use Rattle.terms.proofs.Making.{count_within}
 use Rattle.terms.proofs.Meanings.{tree_front, tree_node, trees_length, index_once, has_parts}
@@ -27,10 +27,10 @@ module _ (es : List Entry) (n : ℕ) where
 
   pub sound_take : Sound es → Sound (take n es)
   sound_take s = record {
-    earlier = λ k h. subst (λ x. after x.record ≤ k) (sym (kept_entry k h)) (s.earlier k (omega (arith, len)));
+    earlier = λ k h. rw (kept_entry k h) (s.earlier k (omega (arith, len)));
     once = apart_take same_entry n es s.once;
-    measured = λ k h. subst (Measures _) (sym (kept_entry k h)) (subst (λ t. Measures t (entry es k)) (sym (kept_tree k h)) (s.measured k (omega (arith, len))));
-    small = λ k h. subst (λ t. size t ≤ largest) (sym (kept_tree k h)) (s.small k (omega (arith, len)));
+    measured = λ k h. rw (kept_tree k h, kept_entry k h) (s.measured k (omega (arith, len)));
+    small = λ k h. rw (kept_tree k h) (s.small k (omega (arith, len)));
   }
 
   pub trees_take : trees_of (take n es) ≡ take n (trees_of es)
@@ -41,11 +41,8 @@ module _ (es : List Entry) (n : ℕ) where
       ext_get_or (leaf nil) (trees_of (take n es)) (take n (trees_of es)) (omega (arith, len))
       (λ k h. kept_tree k (omega arith) ∙ sym (get_or-take n (trees_of es) k (leaf nil) (omega (arith, len))))
 
-pub forgotten : (old new : Terms) (n : ℕ) → WellFormed old → entries new ≡ take n (entries old) → room new ≡ room old → WellFormed new
-forgotten old new n w e r = record { sound = subst Sound (sym e) (sound_take (entries old) n w.sound); few = omega (arith, w.few) }
-
-pub forgotten_trees : (old new : Terms) (n : ℕ) → entries new ≡ take n (entries old) → trees new ≡ take n (trees old)
-forgotten_trees old new n e = ap trees_of e ∙ trees_take (entries old) n
+pub forgotten_trees : (old new : List Entry) (n : ℕ) → new ≡ take n old → trees_of new ≡ take n (trees_of old)
+forgotten_trees old new n e = ap trees_of e ∙ trees_take old n
 
 -- ---- the theorems
 
@@ -67,20 +64,20 @@ operands_had l (binary u t v) h =
 
 pub kept_once : KeptOnce
 kept_once = record {
-  distinct = λ T w. index_once (entries T) w.sound;
-  complete = λ T w. has_parts (entries T) w.sound;
-  operands_kept = λ T w i h. operands_had (trees T) (tree T i) (has_parts (entries T) w.sound i h);
+  distinct = λ T. index_once (entries T) T.sound;
+  complete = λ T. has_parts (entries T) T.sound;
+  operands_kept = λ T i h. operands_had (trees T) (tree T i) (has_parts (entries T) T.sound i h);
 }
 
 pub meanings_last : MeaningsLast
-meanings_last = record { by_record = λ T w. tree_node (entries T) w.sound; as_many = trees_length; appended = tree_front }
+meanings_last = record { by_record = λ T. tree_node (entries T) T.sound; as_many = trees_length; appended = tree_front }
 
-refused_exactly : (old new : Terms) (root : Tree) (answer : Result ℕ Full) → Did old new root answer → is_err answer ≡ ltb (room old) (length (keep_each (trees old) (parts root)))
+refused_exactly : (old new : Terms) (root : Tree) (answer : Result ℕ Full) → Did old new root answer → is_err answer ≡ ltb (most old) (length (keep_each (trees old) (parts root)))
 refused_exactly old new root (Ok i) d =
     let n = trees_length (entries new) in
     let m = count_within new in
-    sym (le-ltb (room old) (length (keep_each (trees old) (parts root))) (omega (arith, ap length d.outcome.kept_each, d.same_room)))
-refused_exactly old new root (Err f) d = sym (lt-ltb (room old) (length (keep_each (trees old) (parts root))) d.outcome)
+    sym (le-ltb (most old) (length (keep_each (trees old) (parts root))) (omega (arith, ap length d.outcome.kept_each, d.same_room)))
+refused_exactly old new root (Err f) d = sym (lt-ltb (most old) (length (keep_each (trees old) (parts root))) d.outcome)
 
 pub refused_for_want_of_room : RefusedForWantOfRoom
-refused_for_want_of_room = record { exactly = refused_exactly; given_back = λ old new root answer d. sym (trees_take (entries new) (count old)) ∙ ap trees_of d.front }
+refused_for_want_of_room = record { exactly = refused_exactly; most_is_room = λ T few. omega (arith, few); given_back = λ old new root answer d. sym (trees_take (entries new) (count old)) ∙ ap trees_of d.front }

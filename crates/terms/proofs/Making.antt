@@ -1,5 +1,5 @@
 -- Keeping the record of a tree whose operands are there.
-use Rattle.std.proofs.Common.{◌≡◌, ℕ, suc, ◌^◌, ◌<◌, ◌≤◌, true, false, List, [], ◌∷◌, ◌++◌, length, take, Some, Ok, Err, Result, sym, refl, ap, ◌∙◌, subst, inl, inr, arith, MatchResult}
+use Rattle.std.proofs.Common.{◌≡◌, ℕ, suc, ◌+◌, cond, ltb, ◌<◌, ◌≤◌, true, false, List, [], ◌∷◌, ◌++◌, length, take, is_err, Some, Ok, Err, Result, sym, refl, ap, ◌∙◌, inl, inr, arith, MatchResult}
 use native.Mathlib.Decide.{dec_lt}
 use mathlib.Core.Bool.{false≢true}
 use Rattle.std.specs.List.{slice_get}
@@ -19,12 +19,13 @@ use Rattle.terms.specs.declared.records.Record.{Record}
 use Rattle.terms.specs.declared.records.Record.TheVariants.{Leaf, Unary, Binary}
 use Rattle.terms.specs.declared.records.Entry.{Entry}
 use Rattle.terms.specs.Nodes.{node, after, same_entry}
-use Rattle.terms.specs.Keeping.{has, keep, keep_each}
+use Rattle.logic.specs.Keeping.{has, keep, keep_each}
 use Rattle.terms.specs.Meaning.{entry, trees_after, trees_of, tree_of, largest, Measures, Sound}
-use Rattle.terms.specs.Outcome.{entries, count, room, trees, tree, WellFormed, Keeps, Did}
-use Rattle.terms.specs.NodesLemmas.{node_injective, same_record_true}
-use Rattle.terms.proofs.Keepings.{has_at, at_has, has_each_append, keep_last, keep_had, keep_new}
-use Rattle.terms.proofs.Meanings.{entries_equivalence, trees_length, trees_push, tree_front, tree_last, tree_node, index_once, stands_at, has_parts}
+use Rattle.terms.specs.Outcome.{entries, count, room, trees, tree, most, Keeps, Did}
+use Rattle.terms.specs.NodesLemmas.{node_injective, same_record_true, same_equivalence}
+use Rattle.terms.proofs.Keepings.{has_at, at_has}
+use Rattle.logic.proofs.Keepings.{has_each_append, keep_last, keep_had, keep_new}
+use Rattle.terms.proofs.Meanings.{trees_length, trees_push, tree_front, tree_last, tree_node, index_once, stands_at, has_parts}
 
 -- ---- a record is there if and only if its tree is
 
@@ -32,7 +33,7 @@ pub nth_is : (es : List Entry) (i : ℕ) (x : Entry) → slice_get es i ≡ Some
 nth_is es i x e =
     elim (dec_lt i (length es)) [
       | yes h ↦ let f = slice_get-get_or es i (entry [] 0) h in (h, cc)
-      | no h ↦ let f = slice_get_past es i (omega arith) in let z : ◌≡◌ {A = ℕ} 0 1 = cc in absurd (omega arith)
+      | no h ↦ let f = slice_get_past es i (omega arith) in cc
     ]
 
 module _ (es : List Entry) (s : Sound es) (e : Entry) (early : after e.record ≤ length es) where
@@ -89,33 +90,22 @@ module _ (es : List Entry) (s : Sound es) (e : Entry) (early : after e.record �
   -- ---- the invariant is kept
 
   module _ (m : Measures root e) (fits : size root ≤ largest) (absent : table.has same_entry es e ≡ false) where
-    entry_front : (k : ℕ) → k < length es → entry (es ++ (e ∷ [])) k ≡ entry es k
-    entry_front k h = get_or_append_left es (e ∷ []) _ k h
-
-    entry_last : (k : ℕ) → k ≡ length es → entry (es ++ (e ∷ [])) k ≡ e
-    entry_last k h = get_or_push es e _ k (sym h)
-
-    tree_at_last : (k : ℕ) → k ≡ length es → tree_of (es ++ (e ∷ [])) k ≡ root
-    tree_at_last k h = ap (tree_of (es ++ (e ∷ []))) h ∙ tree_last es e
+    -- what holds at each place and at the new one
+    each_after : (P : ℕ → Tree → Entry → Type 0) → ((k : ℕ) → k < length es → P k (tree_of es k) (entry es k)) → P (length es) root e
+        → (k : ℕ) → k < length (es ++ (e ∷ [])) → P k (tree_of (es ++ (e ∷ [])) k) (entry (es ++ (e ∷ [])) k)
+    each_after P old new k h =
+        elim (dec_lt k (length es)) [
+          | yes l ↦ rw (tree_front es (e ∷ []) k l, get_or_append_left es (e ∷ []) (entry [] 0) k l) (old k l)
+          | no l ↦ let last : k ≡ length es = omega (arith, length_push es e) in rw (last, tree_last es e, get_or_push es e (entry [] 0) (length es) refl) new
+        ]
 
     sound_added : Sound (es ++ (e ∷ []))
-    sound_added =
-        let n = length_push es e in
-        record {
-          earlier = λ k h. elim (dec_lt k (length es)) [
-            | yes l ↦ subst (λ x. after x.record ≤ k) (sym (entry_front k l)) (s.earlier k l)
-            | no l ↦ let last : k ≡ length es = omega arith in subst (λ x. after x.record ≤ k) (sym (entry_last k last)) (omega arith)
-          ];
-          once = apart_append same_entry entries_equivalence es e absent s.once;
-          measured = λ k h. elim (dec_lt k (length es)) [
-            | yes l ↦ subst (Measures _) (sym (entry_front k l)) (subst (λ t. Measures t (entry es k)) (sym (tree_front es (e ∷ []) k l)) (s.measured k l))
-            | no l ↦ let last : k ≡ length es = omega arith in subst (Measures _) (sym (entry_last k last)) (subst (λ t. Measures t e) (sym (tree_at_last k last)) m)
-          ];
-          small = λ k h. elim (dec_lt k (length es)) [
-            | yes l ↦ subst (λ t. size t ≤ largest) (sym (tree_front es (e ∷ []) k l)) (s.small k l)
-            | no l ↦ let last : k ≡ length es = omega arith in subst (λ t. size t ≤ largest) (sym (tree_at_last k last)) fits
-          ];
-        }
+    sound_added = record {
+      earlier = each_after (λ k _ x. after x.record ≤ k) s.earlier early;
+      once = apart_append same_entry same_equivalence es e absent s.once;
+      measured = each_after (λ _ t x. Measures t x) s.measured m;
+      small = each_after (λ _ t _. size t ≤ largest) s.small fits;
+    }
 
 -- ---- what the container's `keep` does to the terms
 
@@ -129,59 +119,89 @@ module _ (n : ℕ) (l : List Entry) (e : Entry) where
   no_place_left : table.has same_entry l e ≡ false → n ≤ length l → (answer same_entry n l e ≡ Err (record {})) × (keep_in same_entry n l e ≡ l)
   no_place_left h left = let t = le-ltb (length l) n left in (rw (h, t), rw (h, t))
 
-abbrev pub numbered : Result Place Full → Result ℕ Full
-numbered (Ok p) = Ok (index p)
-numbered (Err f) = Err f
-
-module _ (old new : Terms) (w : WellFormed old) (same_room : room new ≡ room old) (root : Tree) (r a : Result Place Full) (es : List Entry) (says : r ≡ a) (is : entries new ≡ es) where
-  did_with : Sound es → take (count old) es ≡ entries old → MatchResult (numbered a) (Keeps (entries old) es root) (λ _. room old < length (keep_each (trees old) (parts root))) → Did old new root (numbered r)
-  did_with s front out = record {
-    well_formed = record { sound = subst Sound (sym is) s; few = omega (arith, w.few) };
+module _ (old new : Terms) (same_room : room new ≡ room old) (root : Tree) (es : List Entry) (is : entries new ≡ es) where
+  did_with : (r : Result ℕ Full) → take (count old) es ≡ entries old → MatchResult r (Keeps (entries old) es root) (λ _. most old < length (keep_each (trees old) (parts root))) → Did old new root r
+  did_with r front out = record {
     same_room = same_room;
     front = ap (take (count old)) is ∙ front;
-    outcome = subst (λ q. MatchResult (numbered q) (Keeps (entries old) (entries new) root) (λ _. room old < length (keep_each (trees old) (parts root)))) (sym says) (subst (λ n. MatchResult (numbered a) (Keeps (entries old) n root) (λ _. room old < length (keep_each (trees old) (parts root)))) (sym is) out);
+    outcome = rw is out;
   }
 
-module _ (old new : Terms) (w : WellFormed old) (e : Entry) (early : after e.record ≤ count old) (m : Measures (node (tree old) e.record) e) (fits : size (node (tree old) e.record) ≤ largest) where
-  pub did_keep : (r : Result Place Full) → room new ≡ room old → r ≡ answer same_entry (room old) (entries old) e → entries new ≡ keep_in same_entry (room old) (entries old) e → Did old new (node (tree old) e.record) (numbered r)
-  did_keep r same_room says is =
-      let s = w.sound in
-      let all = take_all (count old) (entries old) (omega arith) in
-      elim (cases_Bool (table.has same_entry (entries old) e)) [
+module _ (old new : Terms) (e : Entry) (early : after e.record ≤ count old) where
+  -- the entry was there at the place, or is added there
+  pub did_place : (p : Place) (i : ℕ) → i ≡ index p → room new ≡ room old → Ok p ≡ answer same_entry (room old) (entries old) e → entries new ≡ keep_in same_entry (room old) (entries old) e → Did old new (node (tree old) e.record) (Ok i)
+  did_place p i place same_room says is =
+      let s = old.sound in
+      let es = entries old in
+      let all = take_all (count old) es (omega arith) in
+      elim (cases_Bool (table.has same_entry es e)) [
         | inl h ↦
-            let c = found_already (room old) (entries old) e h in
-            did_with old new w same_room _ r _ _ (says ∙ c.0) (is ∙ c.1) s all (keeps_found (entries old) s e early h)
-        | inr h ↦ elim (dec_lt (length (entries old)) (room old)) [
+            let c = found_already (room old) es e h in
+            let at : i ≡ table.before same_entry es e = cc in
+            did_with old new same_room _ _ (is ∙ c.1) (Ok i) all (rw at (keeps_found es s e early h))
+        | inr h ↦ elim (dec_lt (length es) (room old)) [
           | yes l ↦
-              let c = added_last (room old) (entries old) e h l in
-              did_with old new w same_room _ r _ _ (says ∙ c.0) (is ∙ c.1) (sound_added (entries old) s e early m fits h) (take_at (entries old) (e ∷ []) (count old) refl) (keeps_added (entries old) s e early h)
-          | no l ↦
-              let c = no_place_left (room old) (entries old) e h (omega arith) in
-              did_with old new w same_room _ r _ _ (says ∙ c.0) (is ∙ c.1) s all (omega (arith, one_more (entries old) s e early h))
+              let c = added_last (room old) es e h l in
+              let at : i ≡ length es = cc in
+              did_with old new same_room _ _ (is ∙ c.1) (Ok i) (take_at es (e ∷ []) (count old) refl) (rw at (keeps_added es s e early h))
+          | no l ↦ let c = no_place_left (room old) es e h (omega arith) in cc
         ]
       ]
 
-  pub did_place : (p : Place) (i : ℕ) → i ≡ index p → room new ≡ room old → Ok p ≡ answer same_entry (room old) (entries old) e → entries new ≡ keep_in same_entry (room old) (entries old) e → Did old new (node (tree old) e.record) (Ok i)
-  did_place p i is same_room says kept = subst (λ j. Did old new (node (tree old) e.record) (Ok j)) (sym is) (did_keep (Ok p) same_room says kept)
+  -- nothing was added, since no more can be kept
+  pub did_full : room new ≡ room old → entries new ≡ entries old → table.has same_entry (entries old) e ≡ false → most old ≤ count old → Did old new (node (tree old) e.record) (Err (record {}))
+  did_full same_room is h full =
+      did_with old new same_room _ _ is (Err (record {})) (take_all (count old) (entries old) (omega arith)) (omega (arith, one_more (entries old) old.sound e early h))
 
-  pub did_full : (f : Full) → room new ≡ room old → Err f ≡ answer same_entry (room old) (entries old) e → entries new ≡ keep_in same_entry (room old) (entries old) e → Did old new (node (tree old) e.record) (Err f)
-  did_full f same_room says kept = did_keep (Err f) same_room says kept
+  pub did_refused : (f : Full) (r : Result ℕ Full) → is_err r ≡ true → room new ≡ room old → Err f ≡ answer same_entry (room old) (entries old) e → entries new ≡ keep_in same_entry (room old) (entries old) e → Did old new (node (tree old) e.record) r
+  did_refused f (Ok i) refused same_room says is = cc
+  did_refused f (Err g) refused same_room says is =
+      let es = entries old in
+      elim (cases_Bool (table.has same_entry es e)) [
+        | inl h ↦ let c = found_already (room old) es e h in cc
+        | inr h ↦ elim (dec_lt (length es) (room old)) [
+          | yes l ↦ let c = added_last (room old) es e h l in cc
+          | no l ↦ did_full same_room (is ∙ (no_place_left (room old) es e h (omega arith)).1) h (omega arith)
+        ]
+      ]
 
--- an index is a 32-bit number
-pub count_within : (T : Terms) → count T ≤ room T
-count_within T = omega (arith, length-take T.table.used T.table.slots.now)
+-- the entry that was searched for and found is kept already
+pub did_found : (T : Terms) (e : Entry) (early : after e.record ≤ count T) (i : ℕ) → table.first same_entry (entries T) e ≡ Some i → Did T T (node (tree T) e.record) (Ok i)
+did_found T e early i at =
+    elim (cases_Bool (table.has same_entry (entries T) e)) [
+      | inl h ↦
+          let place : i ≡ table.before same_entry (entries T) e = cc in
+          did_with T T refl _ _ refl (Ok i) (take_all (count T) (entries T) (omega arith)) (rw place (keeps_found (entries T) T.sound e early h))
+      | inr h ↦ cc
+    ]
 
-pub index_fits : (old new : Terms) (root : Tree) (i : ℕ) → Did old new root (Ok i) → i < 2 ^ 32
-index_fits old new root i d = omega (arith, d.outcome.within, count_within new, d.well_formed.few)
+-- what is kept stays sound
+pub sound_keep : (n : ℕ) (es : List Entry) (e : Entry) → Sound es → after e.record ≤ length es → Measures (node (tree_of es) e.record) e → size (node (tree_of es) e.record) ≤ largest → Sound (keep_in same_entry n es e)
+sound_keep n es e s early m fits =
+    elim (cases_Bool (table.has same_entry es e)) [
+      | inl h ↦ rw (found_already n es e h).1 s
+      | inr h ↦ elim (dec_lt (length es) n) [
+        | yes l ↦ rw (added_last n es e h l).1 (sound_added es s e early m fits h)
+        | no l ↦ rw (no_place_left n es e h (omega arith)).1 s
+      ]
+    ]
+
+-- at most one is added
+pub few_more : (n : ℕ) (es : List Entry) (e : Entry) → length (keep_in same_entry n es e) ≤ length es + 1
+few_more n es e =
+    elim (table.has same_entry es e) as (λ b. length (cond b es (cond (ltb (length es) n) (es ++ (e ∷ [])) es)) ≤ length es + 1) [
+      | true ↦ omega arith
+      | false ↦ elim (ltb (length es) n) as (λ b. length (cond b (es ++ (e ∷ [])) es) ≤ length es + 1) [ true ↦ omega (arith, length_push es e) | false ↦ omega arith ]
+    ]
+
+pub count_within : (T : Terms) → count T ≤ most T
+count_within T = omega (arith, length-take T.table.log.used T.table.log.slots.now, T.few)
 
 -- ---- an empty table
 
 pub empty_sound : Sound []
 empty_sound = record { earlier = λ k h. absurd (omega arith); once = tt; measured = λ k h. absurd (omega arith); small = λ k h. absurd (omega arith) }
 
-pub empty_well_formed : (T : Terms) → entries T ≡ [] → room T < 2 ^ 32 → WellFormed T
-empty_well_formed T e few = record { sound = subst Sound (sym e) empty_sound; few = few }
-
-pub empty_trees : (T : Terms) → entries T ≡ [] → trees T ≡ []
+pub empty_trees : (es : List Entry) → es ≡ [] → trees_of es ≡ []
 unfolding trees_of trees_after
-empty_trees T e = ap trees_of e
+empty_trees es e = ap trees_of e

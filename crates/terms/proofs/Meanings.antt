@@ -3,19 +3,17 @@ use Rattle.std.proofs.Common.{◌≡◌, ℕ, zero, suc, ◌+◌, ◌<◌, ◌�
 use Rattle.std.proofs.lemmas.List.{length_push, get_or_push, get_or_append_left}
 use Rattle.std.proofs.lemmas.Option.{slice_get-get_or}
 use Rattle.logic.specs.Tree.{Tree, leaf, nil, parts}
-use Rattle.table.specs.Sameness.{Equivalence, Stands}
+use Rattle.table.specs.Sameness.{Stands}
 use Rattle.table.proofs.Aparts.{at_most_one}
 use Rattle.terms.specs.declared.records.Record.{Record}
 use Rattle.terms.specs.declared.records.Record.TheVariants.{Leaf, Unary, Binary}
 use Rattle.terms.specs.declared.records.Entry.{Entry}
 use Rattle.terms.specs.Nodes.{node, after, same_entry}
-use Rattle.terms.specs.Keeping.{has, HasEach}
+use Rattle.logic.specs.Keeping.{has, HasEach}
 use Rattle.terms.specs.Meaning.{at, entry, trees_after, trees_of, tree_of, Sound}
-use Rattle.terms.specs.NodesLemmas.{node_agree, node_injective, decides_same, same_reflexive, same_symmetric, same_transitive}
-use Rattle.terms.proofs.Keepings.{has_at, has_each_append}
-
-pub entries_equivalence : Equivalence same_entry
-entries_equivalence = record { reflexive = same_reflexive; symmetric = same_symmetric; transitive = same_transitive }
+use Rattle.terms.specs.NodesLemmas.{node_agree, node_injective, decides_same, same_equivalence}
+use Rattle.terms.proofs.Keepings.{has_at}
+use Rattle.logic.proofs.Keepings.{has_each_append}
 
 -- ---- the trees after others
 
@@ -87,7 +85,7 @@ pub stands_at : (es : List Entry) (e : Entry) (k : ℕ) → k < length es → (e
 stands_at es e k h q = (entry es k, slice_get-get_or es k _ h, (decides_same (entry es k).record e.record).1 q)
 
 record_once : (es : List Entry) → Sound es → (j k : ℕ) → j < length es → k < length es → (entry es j).record ≡ (entry es k).record → j ≡ k
-record_once es s j k a b e = at_most_one same_entry entries_equivalence es s.once (entry es k) j k (stands_at es (entry es k) j a e) (stands_at es (entry es k) k b refl)
+record_once es s j k a b e = at_most_one same_entry same_equivalence es s.once (entry es k) j k (stands_at es (entry es k) j a e) (stands_at es (entry es k) k b refl)
 
 -- distinct places have distinct trees
 pub tree_once : (es : List Entry) → Sound es → (n j k : ℕ) → j < n → k < n → j < length es → k < length es → tree_of es j ≡ tree_of es k → j ≡ k

@@ -1,11 +1,14 @@
 -- Substitution on trees, head by head: what changes nothing, sizes, and what the operands are asked.
-use Rattle.std.proofs.Common.{◌≡◌, ℕ, suc, pred, ◌+◌, ◌*◌, ◌<◌, ◌≤◌, Bool, true, false, cond, eqb, sym, refl, ap, ◌∙◌, ap₂, arith}
+use Rattle.std.proofs.Common.{◌≡◌, ℕ, suc, pred, max, ◌+◌, ◌*◌, ◌^◌, ◌<◌, ◌≤◌, Bool, true, false, cond, eqb, Ok, sym, refl, ap, ◌∙◌, ap₂, arith}
 use mathlib.Core.Option.{Option, none, some}
 use Rattle.std.proofs.lemmas.Bool.Decides.{nat_tests}
 use Rattle.std.proofs.lemmas.Bool.{lt-ltb}
 use Rattle.logic.specs.Tree.{Tree, Leaf, Unary, Binary, leaf, unary, binary, size, binds, variable, above, foralls, open_indices, raise_tree, under, put_index, put_tree, put_late, put_size_at, put_size}
 use Rattle.logic.proofs.Trees.{put_late_is, raise_by_none, raise_size, put_tree_size, le_pred}
+use Rattle.terms.specs.declared.Terms.{Terms}
 use Rattle.terms.specs.Meaning.{largest}
+use Rattle.terms.specs.Outcome.{count, tree, Did}
+use Rattle.terms.proofs.Outcomes.{still_means, second_means}
 
 -- ---- a term without an open index from d on
 
@@ -43,11 +46,14 @@ size_at_bound : (d n : ℕ) (o : Option ℕ) → n ≤ largest → put_size_at d
 size_at_bound d n none h = omega arith
 size_at_bound d n (some i) h = grind (arith, nat_tests)
 
--- a 32-bit number holds it
 pub put_size_bound : (d n : ℕ) (u : Tree) → n ≤ largest → put_size d n u ≤ size u * largest
 put_size_bound d n (leaf x) h = omega (arith, size_at_bound d n (variable x) h)
 put_size_bound d n (unary u v) h = omega (arith, put_size_bound (under u d) n v h)
 put_size_bound d n (binary u v w) h = omega (arith, put_size_bound d n v h, put_size_bound d n w h)
+
+-- a 32-bit number holds it
+pub put_size_fits : (d n : ℕ) (u v : Tree) → u ≡ v → size u ≤ largest → n ≤ largest → put_size d n v < 2 ^ 32
+put_size_fits d n u v is s h = omega (arith, put_size_bound d n v h, ap size is)
 
 -- ---- φ[t]
 
@@ -59,16 +65,21 @@ instance_is t u = put_late_is 0 t u ∙ ap (λ x. put_tree 0 x u) (raise_by_none
 pub put_one : (d e : ℕ) (t u x : Tree) (h : Unary) → u ≡ unary h x → e ≡ under h d → put_late d t u ≡ unary h (put_late e t x)
 put_one d e t u x h is at = ap (put_late d t) is ∙ ap (λ n. unary h (put_late n t x)) (sym at)
 
-pub put_two : (d : ℕ) (t v u x y z : Tree) (h : Binary) → u ≡ binary h x y → v ≡ t → z ≡ y → put_late d t u ≡ binary h (put_late d t x) (put_late d v z)
-put_two d t v u x y z h is s r = ap (put_late d t) is ∙ ap₂ (λ a b. binary h (put_late d t x) (put_late d a b)) (sym s) (sym r)
+-- a head over two, the thing and the second operand read after a call for the first
+module _ (old new : Terms) (x : Tree) (k : ℕ) (did : Did old new x (Ok k)) (i a b : ℕ) (h : Binary) (is : tree old i ≡ binary h (tree old a) (tree old b)) (early : suc (max a b) ≤ i) (within : i < count old) (j : ℕ) (there : j < count old) where
+  same_thing : tree new j ≡ tree old j
+  same_thing = still_means old new x k did j there
 
--- what substitution asks of the second operand, read later
-module _ (d : ℕ) (t v u x y z : Tree) (h : Binary) (is : u ≡ binary h x y) (s : v ≡ t) (r : z ≡ y) where
-  pub right_put_fits : (m : ℕ) → open_indices t + (d + foralls u) < m → open_indices v + (d + foralls z) < m
-  right_put_fits m f = omega (arith, ap foralls is, ap open_indices s, ap foralls r)
+  same_second : tree new b ≡ tree old b
+  same_second = second_means old new x k did i a b early within
 
-  pub right_put_small : put_size d (size t) u ≤ largest → put_size d (size v) z ≤ largest
-  right_put_small f = omega (arith, ap (put_size d (size t)) is, ap₂ (λ a b. put_size d (size a) b) s r)
+  pub put_two : (d : ℕ) → put_late d (tree old j) (tree old i) ≡ binary h (put_late d (tree old j) (tree old a)) (put_late d (tree new j) (tree new b))
+  put_two d = rw (is, same_thing, same_second)
 
-  pub right_smaller : size z < size u
-  right_smaller = omega (arith, ap size is, ap size r)
+  -- what substitution asks of it
+  pub second_put : (d : ℕ) → foralls (tree old j) ≡ 0 → open_indices (tree old j) + (d + foralls (tree old i)) < 2 ^ 32 → put_size d (size (tree old j)) (tree old i) ≤ largest
+      → (foralls (tree new j) ≡ 0) × ((open_indices (tree new j) + (d + foralls (tree new b)) < 2 ^ 32) × (put_size d (size (tree new j)) (tree new b) ≤ largest))
+  second_put d u f g = rw (same_thing, same_second) (u, (omega (arith, ap foralls is), omega (arith, ap (put_size d (size (tree old j))) is)))
+
+  pub second_smaller : size (tree new b) < size (tree old i)
+  second_smaller = omega (arith, ap size is, ap size same_second)

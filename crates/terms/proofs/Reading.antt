@@ -1,34 +1,30 @@
 -- Reading entries, and what makes a term's measures fit.
-use Rattle.std.proofs.Common.{◌≡◌, ℕ, suc, ◌+◌, ◌<◌, ◌≤◌, max, Bool, true, false, cond, List, [], length, is_some, Some, Option, sym, ap, ◌∙◌, subst, arith}
+use Rattle.std.proofs.Common.{◌≡◌, ℕ, suc, ◌+◌, ◌<◌, ◌≤◌, max, Bool, true, false, cond, Some, Option, sym, ap, ◌∙◌, subst, arith}
 use Rattle.std.specs.List.{slice_get}
-use Rattle.std.proofs.lemmas.Option.{slice_get-get_or}
 use Rattle.logic.specs.Tree.{Tree, leaf, unary, binary, size, binds, assumes, foralls, assumptions}
 use Rattle.terms.specs.declared.Terms.{Terms}
 use Rattle.terms.specs.declared.records.Record.{Record}
 use Rattle.terms.specs.declared.records.Entry.{Entry}
 use Rattle.terms.specs.Nodes.{node, after}
 use Rattle.terms.specs.Meaning.{entry, Measures, largest}
-use Rattle.terms.specs.Outcome.{entries, count, tree, WellFormed}
+use Rattle.terms.specs.Outcome.{entries, count, tree}
 use Rattle.terms.proofs.Meanings.{tree_node}
 use Rattle.terms.proofs.Making.{nth_is}
 
 -- ---- an entry that was read
 
-pub is_there : (es : List Entry) (i : ℕ) (o : Option Entry) → i < length es → o ≡ slice_get es i → is_some o ≡ true
-is_there es i o h e = ap is_some (e ∙ slice_get-get_or es i (entry [] 0) h)
-
-module _ (T : Terms) (w : WellFormed T) (i : ℕ) (e : Entry) (o : Option Entry) (l : i < count T) (read : o ≡ slice_get (entries T) i) (some : o ≡ Some e) where
+module _ (T : Terms) (i : ℕ) (e : Entry) (o : Option Entry) (l : i < count T) (read : o ≡ slice_get (entries T) i) (some : o ≡ Some e) where
   is : entry (entries T) i ≡ e
   is = (nth_is (entries T) i e (sym read ∙ some)).1
 
   pub read_means : tree T i ≡ node (tree T) e.record
-  read_means = tree_node (entries T) w.sound i l ∙ ap (λ x. node (tree T) x.record) is
+  read_means = tree_node (entries T) T.sound i l ∙ ap (λ x. node (tree T) x.record) is
 
   pub read_earlier : after e.record ≤ i
-  read_earlier = subst (λ x. after x.record ≤ i) is (w.sound.earlier i l)
+  read_earlier = subst (λ x. after x.record ≤ i) is (T.sound.earlier i l)
 
   pub read_measures : Measures (tree T i) e
-  read_measures = subst (Measures (tree T i)) is (w.sound.measured i l)
+  read_measures = subst (Measures (tree T i)) is (T.sound.measured i l)
 
 -- ---- nesting is less than the size
 

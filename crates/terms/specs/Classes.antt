@@ -1,4 +1,4 @@
--- The class of a term, by its head.
+-- The class of a term, by its head: the heads that are not named are those of proofs.
 use Rattle.logic.specs.Tree as trees
 use Rattle.logic.specs.Tree.{Tree, leaf, unary, binary}
 use Rattle.logic.specs.Terms.{Term, of_thing, of_things, of_number, of_formula, of_plan, of_proof}
@@ -16,8 +16,7 @@ leaf_class trees.nil = Things
 leaf_class (trees.lit n) = Number
 leaf_class trees.falsity = Formula
 leaf_class trees.id = Plan
-leaf_class (trees.hyp i) = Proof
-leaf_class (trees.known k) = Proof
+leaf_class x = Proof
 
 abbrev pub unary_class : trees.Unary → Class
 unary_class (trees.application k s) = kind_class k
@@ -25,8 +24,7 @@ unary_class trees.minus = Number
 unary_class trees.neg = Formula
 unary_class trees.forall = Formula
 unary_class (trees.step h) = Plan
-unary_class trees.eqrefl = Proof
-unary_class (trees.from r) = Proof
+unary_class h = Proof
 
 abbrev pub binary_class : trees.Binary → Class
 binary_class trees.cons = Things
@@ -35,11 +33,7 @@ binary_class (trees.connect c) = Formula
 binary_class trees.eq = Formula
 binary_class trees.leq = Formula
 binary_class (trees.fork h) = Plan
-binary_class trees.assume = Proof
-binary_class trees.absurd = Proof
-binary_class trees.eqsub = Proof
-binary_class trees.inst = Proof
-binary_class (trees.from_both r) = Proof
+binary_class h = Proof
 
 abbrev pub tree_class : Tree → Class
 tree_class (leaf x) = leaf_class x

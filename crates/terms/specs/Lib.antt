@@ -1,11 +1,11 @@
 pub mod Heads
 pub mod Nodes
-pub mod Keeping
 pub mod Meaning
 pub mod Outcome
 pub mod Classes
 pub mod Theorems
 pub mod Symbols
+pub mod Words
 pub mod NodesLemmas
+pub mod Sounds
 pub mod HeadsLemmas
-pub mod SymbolsLemmas

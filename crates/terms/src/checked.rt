@@ -1,12 +1,13 @@
 // Terms from records that come from outside: what the table asks of them is tested first.
-ghost use Rattle.std.specs.Prelude.{◌≡◌, Ok, Err, MatchResult};
+ghost use Rattle.std.specs.Prelude.{◌≡◌, ◌<◌, take, Decides};
 ghost use Rattle.logic.specs.Tree.{leaf, put_tree};
 ghost use Rattle.terms.specs.Heads.{leaf_head};
 ghost use Rattle.terms.specs.Nodes.{node};
-ghost use Rattle.terms.specs.Outcome.{tree, Tried, WellFormed};
+ghost use Rattle.terms.specs.Outcome.{count, entries, room, tree, Tried};
+ghost use Rattle.terms.specs.declared.checked.Unkept.TheVariants as unkept;
 
-use crate::Terms;
 use crate::records::{Leaf, Record};
+use crate::{DEEPEST, LARGEST, Terms};
 use table::Full;
 
 // Why a term is not kept: an operand that is not there, a size or an index over the limit, no record left.
@@ -17,75 +18,85 @@ pub enum Unkept {
     Full,
 }
 
-fn room_for(kept: Result<u32, Full>) -> Result<u32, Unkept>
-    ensures { MatchResult kept (λ i. result ≡ Ok i) (λ _. result ≡ Err Unkept.Full) }
-{
-    match kept {
-        Ok(i) => Ok(i),
-        Err(_) => Err(Unkept::Full),
+impl From<Full> for Unkept {
+    ghost from_gives = { λ _ why. why ≡ unkept.Full };
+
+    fn from(_: Full) -> Unkept {
+        Unkept::Full
     }
 }
 
+fn is_kept(terms: &Terms, i: u32) -> bool
+    ensures { Decides result (i < count terms.now) }
+{
+    (i as usize) < terms.len()
+}
+
+// Indices of `var` and `hyp` are below this. (The session's own limits are narrower.)
+const MOST_INDICES: u32 = 64;
+
 // Keeps a record, whose operands and size are tested first.
 pub fn make(terms: &mut Terms, record: Record) -> Result<u32, Unkept>
-    requires { WellFormed terms.old }
     ensures { Tried terms.old terms.new (node (tree terms.old) «record») result }
 {
     match record {
         Record::Leaf(head) => leaf(terms, head),
         Record::Unary(head, a) => {
-            if a as usize >= terms.len() {
+            if !is_kept(terms, a) {
                 return Err(Unkept::Operand);
             }
-            if terms.size(a) >= 20_000 {
+            if terms.size(a) >= LARGEST {
                 return Err(Unkept::Size);
             }
-            room_for(terms.unary(head, a))
+            Ok(terms.unary(head, a)?)
         }
         Record::Binary(head, a, b) => {
-            if a as usize >= terms.len() || b as usize >= terms.len() {
+            if !is_kept(terms, a) || !is_kept(terms, b) {
                 return Err(Unkept::Operand);
             }
-            if terms.size(a) + terms.size(b) >= 20_000 {
+            if terms.size(a) + terms.size(b) >= LARGEST {
                 return Err(Unkept::Size);
             }
-            room_for(terms.binary(head, a, b))
+            Ok(terms.binary(head, a, b)?)
         }
     }
 }
 
 fn leaf(terms: &mut Terms, head: Leaf) -> Result<u32, Unkept>
-    requires { WellFormed terms.old }
     ensures { Tried terms.old terms.new (leaf (leaf_head head)) result }
 {
     match head {
-        Leaf::Var(i) | Leaf::Hyp(i) => {
-            if i > 63 {
-                Err(Unkept::Size)
-            } else {
-                room_for(terms.leaf(head))
-            }
-        }
-        Leaf::Nil | Leaf::Lit(_) | Leaf::False | Leaf::Id | Leaf::Known(_) => room_for(terms.leaf(
-            head,
-        )),
+        Leaf::Var(i) | Leaf::Hyp(i) if i >= MOST_INDICES => Err(Unkept::Size),
+        _ => Ok(terms.leaf(head)?),
     }
+}
+
+// Keeps each of the records, until one is refused.
+pub fn make_each(terms: &mut Terms, records: &[Record]) -> Result<(), Unkept>
+    ensures front { take (count terms.old) (entries terms.new) ≡ entries terms.old }
+    ensures room { room terms.new ≡ room terms.old }
+{
+    for record in records {
+        let _ = make(terms, *record)?;
+    }
+    Ok(())
 }
 
 // Keeps φ[t], whose size is tested first.
 pub fn instance(terms: &mut Terms, term: u32, thing: u32) -> Result<u32, Unkept>
-    requires { WellFormed terms.old }
     ensures { Tried terms.old terms.new (put_tree 0 (tree terms.old thing) (tree terms.old term)) result }
 {
-    if term as usize >= terms.len() || thing as usize >= terms.len() {
+    if !is_kept(terms, term) || !is_kept(terms, thing) {
         return Err(Unkept::Operand);
     }
-    if terms.foralls(thing) > 0 || terms.indices(thing) > 64 || terms.foralls(term) > 32 {
+    if terms.foralls(thing) > 0
+        || terms.indices(thing) > MOST_INDICES
+        || terms.foralls(term) > DEEPEST
+    {
         return Err(Unkept::Size);
     }
-    let n = terms.size(thing);
-    if terms.size_after(term, 0, n) > 20_000 {
+    if terms.size_after(term, 0, terms.size(thing)) > LARGEST {
         return Err(Unkept::Size);
     }
-    room_for(terms.instance(term, thing))
+    Ok(terms.instance(term, thing)?)
 }

@@ -1,40 +1,45 @@
 // Terms of every class, each kept once.
 #![tactic(auto)]
 
-ghost use Rattle.std.specs.Prelude.{◌≡◌, ◌+◌, ◌^◌, ◌<◌, ◌≤◌, [], length, take};
-ghost use Rattle.logic.specs.Tree.{leaf, unary, binary, size, open_indices, open_hypotheses, foralls, assumptions, raise_tree, put_tree, put_late, put_size, stands};
-ghost use Rattle.terms.specs.Classes.{tree_class};
-ghost use Rattle.terms.specs.Heads.{kind_head, leaf_head, unary_head, binary_head};
-ghost use Rattle.terms.specs.Meaning.{largest, Measures};
-ghost use Rattle.terms.specs.Nodes.{node, after};
-ghost use Rattle.terms.specs.Outcome.{count, entries, room, tree, trees, Did, WellFormed};
-ghost use Rattle.terms.specs.Theorems.{ClassByHead, KeptOnce, MeaningsLast, RefusedForWantOfRoom};
+ghost use Rattle.std.specs.Prelude.{◌^◌, ◌<◌, length};
+ghost use Rattle.table.specs.Contents.{kept};
+ghost use Rattle.terms.specs.Meaning.{Sound};
+ghost use Rattle.terms.specs.Sounds.{sound_prop};
 
 pub mod checked;
 pub mod plan_symbols;
 pub mod records;
+mod theorems;
+mod written;
 
 use records::{Binary, Class, Entry, Kind, Leaf, Record, Unary, of_binary, of_leaf, of_unary};
 use table::{Full, Table};
+pub use theorems::{
+    heads_tell_the_class, meanings_last, refused_exactly_for_want_of_room,
+    terms_are_kept_once_with_their_parts,
+};
+
+// The largest size of a term that is kept, written out.
+pub const LARGEST: u32 = 20_000;
+
+// How deep `forall` may be nested in what an instance from outside is made of, and in what is concluded or stated.
+pub const DEEPEST: u32 = 32;
 
 // The terms kept over lent memory, each under the index at which it came.
 #[derive(Drop)]
 pub struct Terms<'a> {
     table: Table<'a, Entry>,
+    pub ghost sound: { Sound (kept table) } by { sound_prop (kept table) },
+    pub ghost few: { length (kept table) < 2 ^ 32 },
 }
 
 impl<'a> Terms<'a> {
+    ghost use Rattle.std.specs.Prelude.{◌≡◌, [], length};
+    ghost use Rattle.terms.specs.Outcome.{room, trees};
+
     // No terms yet, whatever the memory holds.
     pub fn over(slots: &'a mut [Entry]) -> Terms<'a>
         ensures none { trees result ≡ [] }
-        ensures room { room result ≡ length slots.old }
-        ensures well_formed { length slots.old < 2 ^ 32 → WellFormed result }
-    {
-        Terms::empty(slots)
-    }
-
-    fn empty(slots: &'a mut [Entry]) -> Terms<'a>
-        ensures none { entries result ≡ [] }
         ensures room { room result ≡ length slots.old }
     {
         Terms {
@@ -44,6 +49,16 @@ impl<'a> Terms<'a> {
 }
 
 impl Terms<'_> {
+    ghost use Rattle.std.specs.Prelude.{◌≡◌, ◌+◌, ◌^◌, ◌<◌, ◌≤◌, take};
+    ghost use Rattle.logic.specs.Tree.{leaf, unary, binary, size, open_indices, open_hypotheses, foralls, assumptions, raise_tree, put_tree, put_late, put_size, stands};
+    ghost use Rattle.terms.specs.Classes.{tree_class};
+    ghost use Rattle.terms.specs.Heads.{kind_head, leaf_head, unary_head, binary_head};
+    ghost use Rattle.terms.specs.Meaning.{largest, Measures};
+    ghost use Rattle.terms.specs.Nodes.{node, after};
+    ghost use Rattle.terms.specs.Outcome.{count, entries, room, tree, trees, Did};
+
+    // That an index is one of the table is asked where it is used: no type of a number says so of a table that grows.
+
     // How many terms are kept.
     pub fn len(&self) -> usize
         ensures { result ≡ count self.now }
@@ -53,7 +68,6 @@ impl Terms<'_> {
 
     // The record at an index, with the measures of its term.
     fn get(&self, i: u32) -> Entry
-        requires well_formed { WellFormed self.now }
         requires within { i < count self.now }
         ensures means { tree self.now i ≡ node (tree self.now) result.record }
         ensures earlier { after result.record ≤ i }
@@ -64,7 +78,6 @@ impl Terms<'_> {
     }
 
     pub fn record(&self, i: u32) -> Record
-        requires well_formed { WellFormed self.now }
         requires within { i < count self.now }
         ensures means { tree self.now i ≡ node (tree self.now) result }
         ensures earlier { after result ≤ i }
@@ -74,16 +87,16 @@ impl Terms<'_> {
 
     // The class of a term, by its head.
     pub fn class(&self, i: u32) -> Class
-        requires well_formed { WellFormed self.now }
         requires within { i < count self.now }
         ensures { result ≡ tree_class (tree self.now i) }
     {
         self.record(i).class()
     }
 
+    // Each measure has a call of its own: a caller wants one, and each says another fact.
+
     // The size of the term written out.
     pub fn size(&self, i: u32) -> u32
-        requires well_formed { WellFormed self.now }
         requires within { i < count self.now }
         ensures exact { result ≡ size (tree self.now i) }
         ensures small { result ≤ largest }
@@ -93,7 +106,6 @@ impl Terms<'_> {
 
     // The least number above each open index, 0 if there is none.
     pub fn indices(&self, i: u32) -> u32
-        requires well_formed { WellFormed self.now }
         requires within { i < count self.now }
         ensures { result ≡ open_indices (tree self.now i) }
     {
@@ -102,7 +114,6 @@ impl Terms<'_> {
 
     // The least number above each open hypothesis, 0 if there is none.
     pub fn hypotheses(&self, i: u32) -> u32
-        requires well_formed { WellFormed self.now }
         requires within { i < count self.now }
         ensures { result ≡ open_hypotheses (tree self.now i) }
     {
@@ -111,7 +122,6 @@ impl Terms<'_> {
 
     // How deep `forall` is nested.
     pub fn foralls(&self, i: u32) -> u32
-        requires well_formed { WellFormed self.now }
         requires within { i < count self.now }
         ensures { result ≡ foralls (tree self.now i) }
     {
@@ -120,7 +130,6 @@ impl Terms<'_> {
 
     // How deep `assume` is nested.
     pub fn assumptions(&self, i: u32) -> u32
-        requires well_formed { WellFormed self.now }
         requires within { i < count self.now }
         ensures { result ≡ assumptions (tree self.now i) }
     {
@@ -132,34 +141,27 @@ impl Terms<'_> {
         ensures entries { entries self.new ≡ take n (entries self.old) }
         ensures trees { trees self.new ≡ take n (trees self.old) }
         ensures room { room self.new ≡ room self.old }
-        ensures well_formed { WellFormed self.old → WellFormed self.new }
-    {
-        self.cut(n)
-    }
-
-    fn cut(&mut self, n: usize)
-        ensures entries { entries self.new ≡ take n (entries self.old) }
-        ensures room { room self.new ≡ room self.old }
     {
         self.table.truncate(n)
     }
 
+    // Where as many are kept as 32 bits count, only what is kept already has an index.
     fn keep(&mut self, entry: Entry) -> Result<u32, Full>
-        requires well_formed { WellFormed self.old }
         requires earlier { after entry.record ≤ count self.old }
         requires measures { Measures (node (tree self.old) entry.record) entry }
         requires small { size (node (tree self.old) entry.record) ≤ largest }
         ensures { Did self.old self.new (node (tree self.old) entry.record) result }
     {
-        match self.table.keep(entry) {
-            Ok(place) => Ok(place.index() as u32),
-            Err(full) => Err(full),
+        if self.len() >= u32::MAX as usize {
+            let at = self.table.find(&entry).ok_or(Full)?;
+            return Ok(at as u32);
         }
+        let place = self.table.keep(entry)?;
+        Ok(place.index() as u32)
     }
 
     // Keeps a leaf.
     pub fn leaf(&mut self, head: Leaf) -> Result<u32, Full>
-        requires well_formed { WellFormed self.old }
         requires indices { open_indices (leaf (leaf_head head)) < 2 ^ 32 }
         requires hypotheses { open_hypotheses (leaf (leaf_head head)) < 2 ^ 32 }
         ensures { Did self.old self.new (leaf (leaf_head head)) result }
@@ -169,7 +171,6 @@ impl Terms<'_> {
 
     // Keeps a head over one operand.
     pub fn unary(&mut self, head: Unary, a: u32) -> Result<u32, Full>
-        requires well_formed { WellFormed self.old }
         requires within { a < count self.old }
         requires small { size (unary (unary_head head) (tree self.old a)) ≤ largest }
         ensures { Did self.old self.new (unary (unary_head head) (tree self.old a)) result }
@@ -180,7 +181,6 @@ impl Terms<'_> {
 
     // Keeps a head over two operands.
     pub fn binary(&mut self, head: Binary, a: u32, b: u32) -> Result<u32, Full>
-        requires well_formed { WellFormed self.old }
         requires left { a < count self.old }
         requires right { b < count self.old }
         requires small { size (binary (binary_head head) (tree self.old a) (tree self.old b)) ≤ largest }
@@ -190,9 +190,9 @@ impl Terms<'_> {
         let right = self.get(b);
         self.keep(of_binary(head, a, b, left, right))
     }
+
     // Keeps a thing with each index `by` more; a closed one stays as it is.
     pub fn raise(&mut self, thing: u32, by: u32) -> Result<u32, Full>
-        requires well_formed { WellFormed self.old }
         requires within { thing < count self.old }
         requires unbound { foralls (tree self.old thing) ≡ 0 }
         requires fits { open_indices (tree self.old thing) + by < 2 ^ 32 }
@@ -215,9 +215,10 @@ impl Terms<'_> {
             }
         }
     }
+
     // Keeps a term with index `depth` replaced by a thing, which is raised by as many binders, and higher indices lowered.
+    // That a thing has no `forall` is asked here and in the calls beside: it is a fact of the tree at an index, as that it is there.
     pub fn substitute(&mut self, term: u32, depth: u32, thing: u32) -> Result<u32, Full>
-        requires well_formed { WellFormed self.old }
         requires within { term < count self.old }
         requires thing { thing < count self.old }
         requires unbound { foralls (tree self.old thing) ≡ 0 }
@@ -251,7 +252,6 @@ impl Terms<'_> {
 
     // Keeps φ[t]: index 0 of a term replaced by a thing.
     pub fn instance(&mut self, term: u32, thing: u32) -> Result<u32, Full>
-        requires well_formed { WellFormed self.old }
         requires within { term < count self.old }
         requires thing { thing < count self.old }
         requires unbound { foralls (tree self.old thing) ≡ 0 }
@@ -264,7 +264,6 @@ impl Terms<'_> {
 
     // The size that a term has after index `depth` is replaced by a thing of size `n`; nothing is kept.
     pub fn size_after(&self, term: u32, depth: u32, n: u32) -> u32
-        requires well_formed { WellFormed self.now }
         requires within { term < count self.now }
         requires fits { depth + foralls (tree self.now term) < 2 ^ 32 }
         requires small { n ≤ largest }
@@ -285,7 +284,6 @@ impl Terms<'_> {
 
     // Whether a symbol of the kind stands in a term.
     pub fn stands(&self, k: Kind, symbol: u32, term: u32) -> bool
-        requires well_formed { WellFormed self.now }
         requires within { term < count self.now }
         ensures { result ≡ stands (kind_head k) symbol (tree self.now term) }
     {
@@ -295,34 +293,6 @@ impl Terms<'_> {
             Record::Binary(_, a, b) => self.stands(k, symbol, a) || self.stands(k, symbol, b),
         }
     }
-}
-
-// Each kept term stands under one index, and with it all its parts.
-pub fn terms_are_kept_once_with_their_parts() -> u8
-    ensures { KeptOnce }
-{
-    0
-}
-
-// A term is made by its record from the terms at its operands, and appending entries changes no term.
-pub fn meanings_last() -> u8
-    ensures { MeaningsLast }
-{
-    0
-}
-
-// A call that keeps a term is refused exactly when its parts do not fit, and cutting the table back gives back the old terms.
-pub fn refused_exactly_for_want_of_room() -> u8
-    ensures { RefusedForWantOfRoom }
-{
-    0
-}
-
-// The class that a head tells is that of the typed term.
-pub fn heads_tell_the_class() -> u8
-    ensures { ClassByHead }
-{
-    0
 }
 
 #[cfg(test)]

@@ -1,14 +1,13 @@
 // Terms of every class as records by shape: a head over the indices of earlier records.
-ghost use Rattle.std.specs.Prelude.{◌≡◌, ℕ, ◌+◌, ◌^◌, ◌<◌, ◌≤◌, Decides};
-ghost use Rattle.logic.specs.Tree.{Tree, leaf, unary, binary, binds, assumes, under, applies, same_kind, open_indices, open_hypotheses};
+// Indices and no boxes, since each term is kept once, in memory that the caller lends.
+ghost use Rattle.std.specs.Prelude.{◌≡◌, ℕ, ◌+◌, ◌^◌, ◌<◌, ◌≤◌};
+ghost use Rattle.logic.specs.Tree.{Tree, leaf, unary, binary, binds, assumes, under, applies, open_indices, open_hypotheses};
 ghost use Rattle.terms.specs.declared.records.Record as records;
 ghost use Rattle.terms.specs.Classes.{leaf_class, unary_class, binary_class, tree_class};
 ghost use Rattle.terms.specs.Heads.{kind_head, leaf_head, unary_head, binary_head};
 ghost use Rattle.terms.specs.Meaning.{largest, Measures};
 ghost use Rattle.terms.specs.Nodes.{node, same_entry};
-ghost use Rattle.terms.specs.NodesLemmas.{same_reflexive, same_symmetric, same_transitive};
-
-use table::Same;
+ghost use Rattle.terms.specs.NodesLemmas.{same_partial, same_equivalence};
 
 // What a symbol yields.
 #[derive(Clone, Copy, PartialEq, Eq)]
@@ -172,12 +171,6 @@ impl Record {
             Record::Binary(head, _, _) => head.class(),
         }
     }
-
-    pub(crate) fn same(self, other: Record) -> bool
-        ensures { Decides result (self ≡ other) }
-    {
-        self == other
-    }
 }
 
 // A record with the measures of its term: its size written out, the bounds of its open indices and open hypotheses,
@@ -192,6 +185,21 @@ pub struct Entry {
     pub assumptions: u32,
 }
 
+// Entries are equal if their records are. By hand: a derive would skip five fields, and that its test is `same_entry` takes a lemma over all heads.
+impl PartialEq for Entry {
+    ghost eq = { same_entry };
+
+    ghost laws = { same_partial };
+
+    fn eq(&self, other: &Entry) -> bool {
+        self.record == other.record
+    }
+}
+
+impl Eq for Entry {
+    ghost laws = { same_equivalence };
+}
+
 // What fills memory before it is lent: nothing depends on it.
 pub const BLANK: Entry = Entry {
     record: Record::Leaf(Leaf::Nil),
@@ -202,39 +210,12 @@ pub const BLANK: Entry = Entry {
     assumptions: 0,
 };
 
-// Entries are the same if their records are.
-impl Same for Entry {
-    ghost same = { same_entry };
-
-    ghost reflexive = { same_reflexive };
-
-    ghost symmetric = { same_symmetric };
-
-    ghost transitive = { same_transitive };
-
-    fn same_as(&self, other: &Entry) -> bool {
-        self.record.same(other.record)
-    }
-}
-
-impl Kind {
-    pub(crate) fn same(self, other: Kind) -> bool
-        ensures { result ≡ same_kind (kind_head self) (kind_head other) }
-    {
-        self == other
-    }
-}
-
 impl Unary {
     // Whether the head binds an index.
     pub(crate) fn binds(self) -> bool
         ensures { result ≡ binds (unary_head self) }
     {
-        match self {
-            Unary::Forall => true,
-            Unary::Application(_, _) | Unary::Minus | Unary::Neg => false,
-            Unary::Step(_) | Unary::Eqrefl | Unary::From(_) => false,
-        }
+        matches!(self, Unary::Forall)
     }
 
     // How many binders there are under the head, which stands under `depth`.
@@ -249,11 +230,7 @@ impl Unary {
     pub(crate) fn applies(self, k: Kind, symbol: u32) -> bool
         ensures { result ≡ applies (kind_head k) symbol (unary_head self) }
     {
-        match self {
-            Unary::Application(j, s) => k.same(j) && symbol == s,
-            Unary::Minus | Unary::Neg | Unary::Forall => false,
-            Unary::Step(_) | Unary::Eqrefl | Unary::From(_) => false,
-        }
+        matches!(self, Unary::Application(j, s) if j == k && s == symbol)
     }
 }
 
@@ -262,16 +239,7 @@ impl Binary {
     pub(crate) fn assumes(self) -> bool
         ensures { result ≡ assumes (binary_head self) }
     {
-        match self {
-            Binary::Assume => true,
-            Binary::Cons
-            | Binary::Add
-            | Binary::Connect(_)
-            | Binary::Eq
-            | Binary::Leq
-            | Binary::Fork(_) => false,
-            Binary::Absurd | Binary::Eqsub | Binary::Inst | Binary::FromBoth(_) => false,
-        }
+        matches!(self, Binary::Assume)
     }
 }
 

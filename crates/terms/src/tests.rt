@@ -1,26 +1,11 @@
 // Substitution on small tables: what is kept, with room for exactly that, and with one record too few.
-ghost use Rattle.terms.specs.Outcome.{WellFormed};
-
 use super::*;
-use crate::checked::{Unkept, instance, make};
+use crate::checked::{Unkept, instance, make, make_each};
 use crate::plan_symbols::{PlanSymbol, note};
 use crate::records::BLANK;
 
-fn make_each(terms: &mut Terms, records: &[Record]) -> Result<(), Unkept>
-    requires { WellFormed terms.old }
-    ensures { WellFormed terms.new }
-{
-    for i in 0..records.len() {
-        let _ = make(terms, records[i])?;
-    }
-    Ok(())
-}
-
 // r(v1, v0) under a `forall`, at index 7, and f(v0) at index 3.
-fn relation(terms: &mut Terms) -> Result<(), Unkept>
-    requires { WellFormed terms.old }
-    ensures { WellFormed terms.new }
-{
+fn relation(terms: &mut Terms) -> Result<(), Unkept> {
     let records = [
         Record::Leaf(Leaf::Nil),
         Record::Leaf(Leaf::Var(0)),

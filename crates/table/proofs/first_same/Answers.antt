@@ -1,11 +1,15 @@
-use Rattle.std.proofs.Common.{arith}
-use Rattle.table.proofs.Firsts.{searched_none, searched_more}
+use Rattle.std.proofs.Common.{rules, sym, ◌∙◌}
+use borrow.Author.Tests.{tests}
+use Rattle.std.proofs.lemmas.Iterator.{YieldsList-from_slice}
+use Rattle.std.proofs.lemmas.Iterator.Search.{position_from_yields_List}
+use Rattle.table.proofs.Firsts.{first_is_position}
+use Rattle.table.proofs.Aparts.{first_is_the_one}
 use Rattle.table.proofs.first_same.Goals as goal
 
-pub loop-i-init : goal.loop-i-init
-loop-i-init g c =
-    let m = g.met.E.Same in
-    searched_none g.E.Same.same c.args.e.now _ (record { reflexive = m.reflexive; symmetric = m.symmetric; transitive = m.transitive })
+pub returns-clause-first : goal.returns-clause-first
+returns-clause-first g c =
+    position_from_yields_List (λ x. g.E.PartialEq.eq x c.args.e.now) _ _ c.position.result c.position.ensures.ran (YieldsList-from_slice c.args.entries.now cc) (λ x b q k. search (rules, tests))
+    ∙ sym (first_is_position g.E.PartialEq.eq c.args.e.now c.args.entries.now)
 
-pub loop-i-preserved : goal.loop-i-preserved
-loop-i-preserved g c = searched_more g.E.Same.same c.args.e.now _ _ c.loop-i.invariant _ (omega arith) c.index-entries-i.is c.if-same_as.ensures
+pub returns-clause-only : goal.returns-clause-only
+returns-clause-only g c = first_is_the_one g.E.PartialEq.eq g.met.E.Eq.laws

@@ -1,9 +1,13 @@
-use Rattle.std.proofs.Common.{ℕ, ◌^◌, ◌<◌, take, drop, decimal}
+use Rattle.std.proofs.Common.{◌≡◌, List, drop, ap, ◌∙◌, subst, true}
+use Rattle.std.proofs.lemmas.List.{take_rest}
 use Rattle.command.specs.ColumnsLemmas.{reads_field}
-use Rattle.command.specs.Numeric.{numeric_natural}
+use Rattle.command.specs.Reads.{Reads}
 use Rattle.command.proofs.ledger.number_in.Goals as goal
 
 pub returns : goal.returns
-returns c =
-    reads_field decimal (λ (n : ℕ). n < 10 ^ 8) numeric_natural (take c.args.width (drop c.args.from c.args.line.now)) c.columns.result.now c.unpadded.result.now c.columns.ensures c.unpadded.ensures
-    c.natural.result c.natural.ensures
+returns g c =
+    let n = g.N.Numeral in
+    let field = c.args.field.now in
+    let from = c.blanks_before.result in
+    reads_field n.written (n.fits true) g.met.N.Numeral.unblank field c.read.result
+    (subst (λ (l : List _). Reads (λ x. n.fits true x × (n.written x ≡ l)) c.read.result) (take_rest field from ∙ ap (λ k. drop k field) c.blanks_before.ensures.0) c.read.ensures)

@@ -1,6 +1,6 @@
-use Rattle.std.proofs.Common.{◌≡◌, ℕ, ◌<◌, length, subst, arith}
+use Rattle.std.proofs.Common.{◌≡◌, ℕ, length, subst, arith}
 use Rattle.std.proofs.lemmas.Bool.Decides.{nat_tests}
-use Rattle.command.specs.Numerals.{Read, none_read, one_more, none_beyond, none_empty, none_after_zero, one_digit, all_read}
+use Rattle.command.specs.Numerals.{Read, one_more, none_beyond, none_empty, none_after_zero, all_read}
 use Rattle.command.proofs.numeral.magnitude.Goals as goal
 
 pub returns-then-is_empty : goal.returns-then-is_empty
@@ -10,11 +10,6 @@ pub returns-then-has_leading_zero : goal.returns-then-has_leading_zero
 returns-then-has_leading_zero c =
     let zero = c.has_leading_zero.ensures.0 c.if-has_leading_zero.true in
     none_after_zero c.args.digits.now c.args.most (omega arith) zero.0 zero.1
-
-pub loop-byte-init : goal.loop-byte-init
-loop-byte-init c =
-    let some : 0 < length c.args.digits.now = grind (arith, nat_tests) in
-    (none_read _, omega arith, some, one_digit c.args.digits.now c.has_leading_zero.result c.has_leading_zero.ensures.1 c.if-has_leading_zero.false some)
 
 pub loop-byte-preserved : goal.loop-byte-preserved
 loop-byte-preserved c =

@@ -1,23 +1,22 @@
-use Rattle.std.proofs.Common.{sym, ap, ◌∙◌, arith}
-use Rattle.logic.specs.Tree.{foralls, put_late}
+use Rattle.std.proofs.Common.{sym, ap, arith}
+use Rattle.logic.specs.Tree.{put_late}
 use Rattle.terms.specs.Outcome.{tree}
-use Rattle.terms.proofs.Outcomes.{did_stay, one_did, one_broke, one_small, two_did, left_broke, right_broke, two_small, still_within, still_means}
-use Rattle.terms.proofs.Putting.{put_late_closed, put_late_small, put_one, put_two, right_put_fits, right_put_small, right_smaller}
+use Rattle.terms.proofs.Outcomes.{did_stay, one_did, one_broke, one_small, two_did, left_broke, right_broke, two_small, still_within}
+use Rattle.terms.proofs.Putting.{put_late_closed, put_late_small, put_one, put_two, second_put, second_smaller}
 use Rattle.terms.proofs.Terms.+substitute.Goals as goal
 
 pub returns-then-indices-depth : goal.returns-then-indices-depth
 returns-then-indices-depth t c =
-    did_stay c.args.self.now _ _ c.requires.well_formed c.requires.within (sym (put_late_closed _ _ _ (omega (arith, c.indices.ensures, c.if-indices-depth.true))))
+    did_stay c.args.self.now _ _ c.requires.within (sym (put_late_closed _ _ _ (omega (arith, c.indices.ensures, c.if-indices-depth.true))))
 
 pub returns-in_err-a-in-Unary : goal.returns-in_err-a-in-Unary
 returns-in_err-a-in-Unary t c =
-    one_broke _ _ _ (put_one _ _ _ _ _ _ c.in-Unary.ensures.means c.under.ensures) _ _ _ _ c.requires.well_formed c.in_err-a-in-Unary.ensures c.from_residual.ensures.0
+    one_broke _ _ _ (put_one _ _ _ _ _ _ c.in-Unary.ensures.means c.under.ensures) _ _ _ _ c.in_err-a-in-Unary.ensures c.from_residual.ensures.0
 
 pub unary-requires : goal.unary-requires
 unary-requires t c =
     let d = c.in_ok-a-in-Unary.ensures in
     record {
-      well_formed = d.well_formed;
       within = d.outcome.within;
       small = one_small _ _ _ (put_one _ _ _ _ _ _ c.in-Unary.ensures.means c.under.ensures) (put_late_small c.args.depth (tree c.args.self.now c.args.thing) (tree c.args.self.now c.args.term) c.requires.small) _ _ _ d;
     }
@@ -28,24 +27,20 @@ returns-in_ok-a-in-Unary t c =
 
 pub returns-in_err-a-in-Binary : goal.returns-in_err-a-in-Binary
 returns-in_err-a-in-Binary t c =
-    left_broke _ _ _ _ (ap (put_late _ _) c.in-Binary.ensures.means) _ _ _ _ c.requires.well_formed c.in_err-a-in-Binary.ensures c.from_residual-in_err-a-in-Binary.ensures.0
+    left_broke _ _ _ _ (ap (put_late _ _) c.in-Binary.ensures.means) _ _ _ _ c.in_err-a-in-Binary.ensures c.from_residual-in_err-a-in-Binary.ensures.0
 
 pub substitute-requires-in-Binary-2 : goal.substitute-requires-in-Binary-2
 substitute-requires-in-Binary-2 t c =
     let d = c.in_ok-a-in-Binary.ensures in
-    let e = c.in-Binary.ensures.means in
+    let is = c.in-Binary.ensures.means in
     let early = c.in-Binary.ensures.earlier in
-    let s = still_means _ _ _ _ d c.args.thing c.requires.thing in
-    let r = still_means _ _ _ _ d c.in-Binary.b (omega (arith, c.requires.within)) in (
-      omega (arith, right_smaller 0 _ _ _ _ _ _ _ e s r, c.decreases),
+    let there = c.requires.thing in (
+      omega (arith, second_smaller _ _ _ _ d _ _ _ _ is early c.requires.within _ there, c.decreases),
       (
-        d.well_formed,
+        still_within _ _ _ _ d _ (omega (arith, c.requires.within)),
         (
-          still_within _ _ _ _ d _ (omega (arith, c.requires.within)),
-          (
-            still_within _ _ _ _ d _ c.requires.thing,
-            (ap foralls s ∙ c.requires.unbound, (right_put_fits _ _ _ _ _ _ _ _ e s r _ c.requires.fits, right_put_small _ _ _ _ _ _ _ _ e s r c.requires.small)),
-          ),
+          still_within _ _ _ _ d _ there,
+          second_put _ _ _ _ d _ _ _ _ is early c.requires.within _ there _ c.requires.unbound c.requires.fits c.requires.small,
         ),
       ),
     )
@@ -53,29 +48,19 @@ substitute-requires-in-Binary-2 t c =
 pub returns-in_err-b-in-Binary : goal.returns-in_err-b-in-Binary
 returns-in_err-b-in-Binary t c =
     let d = c.in_ok-a-in-Binary.ensures in
-    let early = c.in-Binary.ensures.earlier in
-    let s = still_means _ _ _ _ d c.args.thing c.requires.thing in
-    let r = still_means _ _ _ _ d c.in-Binary.b (omega (arith, c.requires.within)) in
-    right_broke _ _ _ _ (put_two _ _ _ _ _ _ _ _ c.in-Binary.ensures.means s r) _ _ _ _ _ _ d c.in_err-b-in-Binary.ensures c.from_residual-in_err-b-in-Binary.ensures.0
+    right_broke _ _ _ _ (put_two _ _ _ _ d _ _ _ _ c.in-Binary.ensures.means c.in-Binary.ensures.earlier c.requires.within _ c.requires.thing _) _ _ _ _ _ _ d c.in_err-b-in-Binary.ensures c.from_residual-in_err-b-in-Binary.ensures.0
 
 pub binary-requires : goal.binary-requires
 binary-requires t c =
     let d = c.in_ok-a-in-Binary.ensures in
     let k = c.in_ok-b-in-Binary.ensures in
-    let early = c.in-Binary.ensures.earlier in
-    let s = still_means _ _ _ _ d c.args.thing c.requires.thing in
-    let r = still_means _ _ _ _ d c.in-Binary.b (omega (arith, c.requires.within)) in
     record {
-      well_formed = k.well_formed;
       left = still_within _ _ _ _ k _ d.outcome.within;
       right = k.outcome.within;
-      small = two_small _ _ _ _ (put_two _ _ _ _ _ _ _ _ c.in-Binary.ensures.means s r) (put_late_small c.args.depth (tree c.args.self.now c.args.thing) (tree c.args.self.now c.args.term) c.requires.small) _ _ _ _ _ d k;
+      small = two_small _ _ _ _ (put_two _ _ _ _ d _ _ _ _ c.in-Binary.ensures.means c.in-Binary.ensures.earlier c.requires.within _ c.requires.thing _) (put_late_small c.args.depth (tree c.args.self.now c.args.thing) (tree c.args.self.now c.args.term) c.requires.small) _ _ _ _ _ d k;
     }
 
 pub returns-in_ok-b-in-Binary : goal.returns-in_ok-b-in-Binary
 returns-in_ok-b-in-Binary t c =
     let d = c.in_ok-a-in-Binary.ensures in
-    let early = c.in-Binary.ensures.earlier in
-    let s = still_means _ _ _ _ d c.args.thing c.requires.thing in
-    let r = still_means _ _ _ _ d c.in-Binary.b (omega (arith, c.requires.within)) in
-    two_did _ _ _ _ (put_two _ _ _ _ _ _ _ _ c.in-Binary.ensures.means s r) _ _ _ _ _ _ _ d c.in_ok-b-in-Binary.ensures c.binary.ensures
+    two_did _ _ _ _ (put_two _ _ _ _ d _ _ _ _ c.in-Binary.ensures.means c.in-Binary.ensures.earlier c.requires.within _ c.requires.thing _) _ _ _ _ _ _ _ d c.in_ok-b-in-Binary.ensures c.binary.ensures

@@ -12,7 +12,6 @@ pub keep-requires : goal.keep-requires
 keep-requires c =
     let m = c.of_binary.ensures.made in
     record {
-      well_formed = c.requires.well_formed;
       earlier = made_earlier _ _ _ m (omega (arith, c.requires.left, c.requires.right));
       measures = made_measures _ _ _ m (c.of_binary.ensures.measures _ _ c.get-left.ensures.measures c.get-right.ensures.measures);
       small = made_small _ _ _ m c.requires.small;

@@ -1,12 +1,11 @@
-use Rattle.std.proofs.Common.{Option, sym, subst}
-use Rattle.command.specs.declared.head.Head.{Head}
-use Rattle.command.specs.Heads.{word, worded, Named}
+use Rattle.command.specs.Heads.{worded}
 use Rattle.command.specs.Words.{worded_names}
 use Rattle.command.proofs.head.Head.from_word.Goals as goal
 
-pub returns : goal.returns
+pub returns-clause-value : goal.returns-clause-value
 unfolding worded
-returns c = record {
-  value = c.by_word.ensures;
-  names = subst (λ (r : Option Head). Named word c.args.spelling.now r) (sym c.by_word.ensures) (worded_names c.args.spelling.now);
-}
+returns-clause-value c = c.spelled_among.ensures
+
+pub returns-clause-names : goal.returns-clause-names
+unfolding worded
+returns-clause-names c = rw c.spelled_among.ensures (worded_names c.args.spelling.now)
