@@ -3,6 +3,7 @@ pub mod Instances
 pub mod Settling
 pub mod Stacks
 pub mod Walking
+pub mod Concluding
 pub mod Handing
 pub mod Joining
 pub mod AnsweredBy

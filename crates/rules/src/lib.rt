@@ -8,3 +8,4 @@ pub mod hypotheses;
 pub mod names;
 pub mod refusal;
 mod shapes;
+pub mod walk;
