@@ -1,12 +1,14 @@
 -- A table of terms by what it means, and what a call that keeps a term does to it.
-use Rattle.std.specs.Prelude.{◌≡◌, ℕ, ◌-◌, ◌^◌, ◌<◌, min, List, length, take, Result, IfOk, MatchResult}
+use Rattle.std.specs.Prelude.{◌≡◌, ℕ, ◌-◌, ◌^◌, ◌<◌, min, List, [], ◌∷◌, length, take, Result, IfOk, MatchResult}
 use Rattle.logic.specs.Tree.{Tree, parts}
 use Rattle.table.specs.Contents.{kept, places}
 use Rattle.table.specs.declared.Full.{Full}
 use Rattle.terms.specs.declared.records.Entry.{Entry}
 use Rattle.terms.specs.declared.Terms.{Terms}
 use Rattle.logic.specs.Keeping.{keep_each}
-use Rattle.terms.specs.Meaning.{trees_of, tree_of}
+use Rattle.terms.specs.declared.records.Record.{Record}
+use Rattle.terms.specs.Nodes.{node}
+use Rattle.terms.specs.Meaning.{at, trees_of, tree_of}
 
 abbrev pub entries : Terms → List Entry
 entries T = kept T.table
@@ -48,6 +50,11 @@ pub record Grew (old new : Terms) (more : List Tree) : Type 0 where
   pub same_room : room new ≡ room old
   pub front : take (count old) (entries new) ≡ entries old
   pub kept_each : trees new ≡ keep_each (trees old) more
+
+-- the terms kept after each of the records was made, the first first
+abbrev pub made_each : List Tree → List Record → List Tree
+made_each ts [] = ts
+made_each ts (r ∷ rs) = made_each (keep_each ts (parts (node (at ts) r))) rs
 
 -- The same of a term from outside, which is refused also where an operand is not there or a limit is passed.
 pub record Tried {E : Type 0} (old new : Terms) (root : Tree) (answer : Result ℕ E) : Type 0 where

@@ -1,9 +1,9 @@
 // Terms from records that come from outside: what the table asks of them is tested first.
-ghost use Rattle.std.specs.Prelude.{◌≡◌, ◌<◌, take, Decides};
+ghost use Rattle.std.specs.Prelude.{◌≡◌, ◌<◌, take, Decides, IfOk};
 ghost use Rattle.logic.specs.Tree.{leaf, put_tree};
 ghost use Rattle.terms.specs.Heads.{leaf_head};
 ghost use Rattle.terms.specs.Nodes.{node};
-ghost use Rattle.terms.specs.Outcome.{count, entries, room, tree, Tried};
+ghost use Rattle.terms.specs.Outcome.{count, entries, made_each, room, tree, trees, Tried};
 ghost use Rattle.terms.specs.declared.checked.Unkept.TheVariants as unkept;
 
 use crate::records::{Leaf, Record};
@@ -71,8 +71,9 @@ fn leaf(terms: &mut Terms, head: Leaf) -> Result<u32, Unkept>
     }
 }
 
-// Keeps each of the records, until one is refused.
+// Keeps each of the records, in order, until one is refused.
 pub fn make_each(terms: &mut Terms, records: &[Record]) -> Result<(), Unkept>
+    ensures made { IfOk result (λ _. trees terms.new ≡ made_each (trees terms.old) records.now) }
     ensures front { take (count terms.old) (entries terms.new) ≡ entries terms.old }
     ensures room { room terms.new ≡ room terms.old }
 {
