@@ -7,7 +7,8 @@ use mathlib.Core.Option.{Option, none, some}
 use lib.ListN.{get_elem?}
 use Rattle.std.proofs.lemmas.List.{length-take, get_or-take}
 use Rattle.std.specs.declared.option.Option as std
-use Rattle.logic.specs.Tree.{Tree, leaf, var, parts}
+use Rattle.logic.specs.Syntax.{implication}
+use Rattle.logic.specs.Tree.{Tree, leaf, var, binary, assume, connect, parts}
 use Rattle.logic.specs.Keeping.{keep_each}
 use Rattle.rules.specs.Forms.{small}
 use Rattle.model.specs.Refusal.{Outcome, done, refused, oversized, crowded, require_at, ◌>>=◌, ◌>>◌}
@@ -15,12 +16,12 @@ use Rattle.terms.specs.declared.Terms.{Terms}
 use Rattle.terms.specs.Outcome.{entries, count, room, most, trees, tree}
 use Rattle.rules.specs.declared.conclusions.Concluded.{Concluded}
 use Rattle.rules.specs.declared.refusal.Refused.{Refused}
-use Rattle.rules.specs.Hypotheses.{IndexBelow, Handed, StackKept}
+use Rattle.rules.specs.Hypotheses.{made_at, IndexBelow, Handed, StackKept}
 use Rattle.rules.specs.Stack.{stacked, named}
 use Rattle.rules.specs.Walk.{Found, settled, walk, answered, Answers}
-use Rattle.rules.proofs.Handing.{handed_later, stacked_later}
+use Rattle.rules.proofs.Handing.{handed_later, made_later, stacked_later}
 use Rattle.rules.proofs.Stacks.{stacked_alike, stacked_push}
-use Rattle.rules.proofs.Walking.{no_shorter, found, answers_then, answers_break}
+use Rattle.rules.proofs.Walking.{no_shorter, found, stands_later, answers_then, answers_break}
 
 pub most_same : (old new : Terms) → room new ≡ room old → most new ≡ most old
 most_same old new e = ap (λ n. min n (2 ^ 32 - 1)) e
@@ -36,6 +37,13 @@ then_settled t0 t1 t2 o whole rule x d r w a e s =
     (subst (λ m. Answers t1 t2 (settled m x.next (trees t1) (rule (tree t1 x.formula))) r) (most_same t0 t1 a.same_room)
     (subst (λ v. Answers t1 t2 (settled (most t1) x.next (trees t1) v) r) e s)))
 
+-- a rule over the sub-proof's formula and over a term, read from the table that the sub-proof left
+pub then_ruled :
+    (t0 t1 t2 : Terms) (o whole : Outcome Found) (rule : Tree → Tree → Option Tree) (i : ℕ) (x : Concluded) (d : Option Tree) (r : Result Concluded Refused)
+    → i < count t0 → whole ≡ (o >>= λ f. settled (most t0) f.next f.terms (rule f.formula (tree t0 i))) → Answers t0 t1 o (Ok x) → d ≡ rule (tree t1 x.formula) (tree t1 i)
+    → Answers t1 t2 (settled (most t1) x.next (trees t1) d) r → Answers t0 t2 whole r
+then_ruled t0 t1 t2 o whole rule i x d r l w a e s = then_settled t0 t1 t2 o whole (λ φ. rule φ (tree t0 i)) x d r w a (e ∙ ap (rule (tree t1 x.formula)) (stands_later t0 t1 a.front i l).0) s
+
 -- a sub-proof was refused
 pub then_refused :
     (t0 t1 : Terms) (o whole : Outcome Found) (k : Found → Outcome Found) (e : Refused) (r : Result Concluded Refused)
@@ -45,8 +53,25 @@ then_refused t0 t1 o whole k e r w a i =
     subst (Answers t0 t1 whole) (sym (b.1 ∙ ap Err b.2)) (subst (λ z. Answers t0 t1 z (Err e)) (sym w) (answers_break t0 t1 t1 o k e a))
 
 -- a hypothesis put on the stack is the newest
-pub pushed : (T : Terms) (cells : List ℕ) (height x : ℕ) → height < length cells → stacked (tree T) (set cells height x) (height + 1) ≡ tree T x ∷ stacked (tree T) cells height
+pushed : (T : Terms) (cells : List ℕ) (height x : ℕ) → height < length cells → stacked (tree T) (set cells height x) (height + 1) ≡ tree T x ∷ stacked (tree T) cells height
 pushed T cells height x l = let e : height + 1 ≡ suc height = omega arith in ap (stacked (tree T) (set cells height x)) e ∙ stacked_push (tree T) cells height x l
+
+-- so the proof under an assumption is walked over the stack with the assumption put on it
+pub under_assumption :
+    (T : Terms) (f : ℕ → Option Tree) (cells : List ℕ) (height x n at : ℕ) (p : Tree) (ts : List Tree) → height < length cells
+    → walk n f (stacked (tree T) cells height) (binary assume (tree T x) p) at ts
+    ≡ (walk n f (stacked (tree T) (set cells height x) (height + 1)) p at ts >>= λ y. settled n y.next y.terms (some (binary (connect implication) (tree T x) y.formula)))
+under_assumption T f cells height x n at p ts l = ap (λ s. walk n f s p at ts >>= λ y. settled n y.next y.terms (some (binary (connect implication) (tree T x) y.formula))) (sym (pushed T cells height x l))
+
+-- the walk over a second premise depends on the limit, the knowns, the stack and the premise only
+second_alike :
+    (rule : Tree → Option Tree) (next : ℕ) (ts : List Tree) (m n : ℕ) (f g : ℕ → Option Tree) (H K : List Tree) (t u : Tree) → m ≡ n → f ≡ g → H ≡ K → t ≡ u
+    → (walk m f H t next ts >>= λ y. settled m y.next y.terms (rule y.formula)) ≡ (walk n g K u next ts >>= λ y. settled n y.next y.terms (rule y.formula))
+second_alike rule next ts m n f g H K t u a b d e =
+    ap (λ i. walk i f H t next ts >>= λ y. settled i y.next y.terms (rule y.formula)) a
+    ∙ ap (λ h. walk n h H t next ts >>= λ y. settled n y.next y.terms (rule y.formula)) b
+    ∙ ap (λ L. walk n g L t next ts >>= λ y. settled n y.next y.terms (rule y.formula)) d
+    ∙ ap (λ v. walk n g K v next ts >>= λ y. settled n y.next y.terms (rule y.formula)) e
 
 module _ (known : List (std.Option ℕ)) (cells again : List ℕ) (height high : ℕ) (same : high ≡ height) (kept : StackKept cells again height) where
   module _ (old new : Terms) (front : take (count old) (entries new) ≡ entries old) (h : Handed (count old) known cells height) where
@@ -65,6 +90,14 @@ module _ (known : List (std.Option ℕ)) (cells again : List ℕ) (height high :
         ap (stacked (tree new) again) same
         ∙ stacked_alike (tree new) (tree new) again cells height (λ j l. ap (tree new) (kept.same_below j l))
         ∙ stacked_later known cells height old new front h
+
+    -- so the second premise, over the table that the first left, reads as over the one before
+    pub second_again :
+        room new ≡ room old → (rule : Tree → Option Tree) (next q : ℕ) (ts : List Tree) → q < count old
+        → (walk (most new) (made_at (tree new) known) (stacked (tree new) again high) (tree new q) next ts >>= λ y. settled (most new) y.next y.terms (rule y.formula))
+        ≡ (walk (most old) (made_at (tree old) known) (stacked (tree old) cells height) (tree old q) next ts >>= λ y. settled (most old) y.next y.terms (rule y.formula))
+    second_again e rule next q ts l =
+        second_alike rule next ts (most new) (most old) (made_at (tree new) known) (made_at (tree old) known) _ _ (tree new q) (tree old q) (most_same old new e) (made_later known cells height old new front h) stacked_again (stands_later old new front q l).0
 
 -- ---- a hypothesis that is read
 
@@ -96,16 +129,6 @@ pub then_walked :
     (t0 t1 t2 : Terms) (o whole v : Outcome Found) (k : Found → Outcome Found) (x : Concluded) (r : Result Concluded Refused)
     → whole ≡ (o >>= k) → Answers t0 t1 o (Ok x) → v ≡ k (found t1 x) → Answers t1 t2 v r → Answers t0 t2 whole r
 then_walked t0 t1 t2 o whole v k x r w a e s = subst (λ z. Answers t0 t2 z r) (sym w) (answers_then t0 t1 t2 o k x r a (subst (λ z. Answers t1 t2 z r) e s))
-
--- the second premise, over the table that the first left, reads as over the one before
-pub second_alike :
-    (rule : Tree → Option Tree) (next : ℕ) (ts : List Tree) (m n : ℕ) (f g : ℕ → Option Tree) (H K : List Tree) (t u : Tree) → m ≡ n → f ≡ g → H ≡ K → t ≡ u
-    → (walk m f H t next ts >>= λ y. settled m y.next y.terms (rule y.formula)) ≡ (walk n g K u next ts >>= λ y. settled n y.next y.terms (rule y.formula))
-second_alike rule next ts m n f g H K t u a b d e =
-    ap (λ i. walk i f H t next ts >>= λ y. settled i y.next y.terms (rule y.formula)) a
-    ∙ ap (λ h. walk n h H t next ts >>= λ y. settled n y.next y.terms (rule y.formula)) b
-    ∙ ap (λ L. walk n g L t next ts >>= λ y. settled n y.next y.terms (rule y.formula)) d
-    ∙ ap (λ v. walk n g K v next ts >>= λ y. settled n y.next y.terms (rule y.formula)) e
 
 -- ---- positions
 

@@ -14,8 +14,7 @@ use mathlib.Core.Option.{Option, some}
 use lib.ListN.{get_elem?}
 use Rattle.rules.specs.Forms.{form, absurdity, instantiated, replaced, from_two}
 use Rattle.rules.proofs.Walking.{stands_later}
-use Rattle.rules.proofs.Handing.{made_later}
-use Rattle.rules.proofs.Concluding.{then_settled, then_refused, pushed, handed_again, stacked_again, hypothesis_below, front_is_stack, then_walked, second_alike, most_same, settled_next}
+use Rattle.rules.proofs.Concluding.{then_settled, then_ruled, then_refused, under_assumption, handed_again, hypothesis_below, front_is_stack, second_again, then_walked, settled_next}
 use Rattle.rules.proofs.walk.+conclude.Goals as goal
 
 pub returns-in_ok-x-in-Binary-Absurd-default-default-clause-answers : goal.returns-in_ok-x-in-Binary-Absurd-default-default-clause-answers
@@ -23,48 +22,42 @@ returns-in_ok-x-in-Binary-Absurd-default-default-clause-answers t c =
     let T = c.args.terms.now in
     let H = stacked (tree T) c.args.cells.now c.args.depth.now.height in
     let a = c.in_ok-x-in-Binary-Absurd-default-default.ensures.answers in
-    let U = c.conclude-in-Binary-Absurd-default-default.new.terms in
     let early = c.in-Binary-Absurd-default-default.ensures.earlier in
     let φ = c.in-Binary-Absurd-default-default.formula in
     let means : tree T c.args.proof ≡ binary trees.absurd (tree T c.in-Binary-Absurd-default-default.p) (tree T c.in-Binary-Absurd-default-default.formula) =
     c.in-Binary-Absurd-default-default.ensures.means ∙ ap (λ h. binary (binary_head h) (tree T c.in-Binary-Absurd-default-default.p) (tree T c.in-Binary-Absurd-default-default.formula)) c.in-Binary-Absurd-default-default.field-0-is
     in
-    let same = (stands_later T U a.front φ (omega (arith, early, c.requires.within))).0 in
-    then_settled T _ _ _ _ (λ ψ. absurdity (form ψ) (tree T φ)) _ _ _
+    then_ruled T _ _ _ _ (λ ψ. absurdity (form ψ)) φ _ _ _ (omega (arith, early, c.requires.within))
     (ap (λ u. walk (most T) (made_at (tree T) c.args.known.now) H u c.args.at (outcome.trees T)) means) a
-    (c.from_falsity-decided.ensures.is ∙ ap (absurdity (form (tree U c.in_ok-x-in-Binary-Absurd-default-default.x.formula))) same) c.settle-in-Binary-Absurd-default-default.ensures
+    c.from_falsity-decided.ensures.is c.settle-in-Binary-Absurd-default-default.ensures
 
 pub returns-in_ok-x-in-Binary-Eqsub-default-default-clause-answers : goal.returns-in_ok-x-in-Binary-Eqsub-default-default-clause-answers
 returns-in_ok-x-in-Binary-Eqsub-default-default-clause-answers t c =
     let T = c.args.terms.now in
     let H = stacked (tree T) c.args.cells.now c.args.depth.now.height in
     let a = c.in_ok-x-in-Binary-Eqsub-default-default.ensures.answers in
-    let U = c.conclude-in-Binary-Eqsub-default-default.new.terms in
     let early = c.in-Binary-Eqsub-default-default.ensures.earlier in
     let φ = c.in-Binary-Eqsub-default-default.formula in
     let means : tree T c.args.proof ≡ binary trees.eqsub (tree T c.in-Binary-Eqsub-default-default.p) (tree T c.in-Binary-Eqsub-default-default.formula) =
     c.in-Binary-Eqsub-default-default.ensures.means ∙ ap (λ h. binary (binary_head h) (tree T c.in-Binary-Eqsub-default-default.p) (tree T c.in-Binary-Eqsub-default-default.formula)) c.in-Binary-Eqsub-default-default.field-0-is
     in
-    let same = (stands_later T U a.front φ (omega (arith, early, c.requires.within))).0 in
-    then_settled T _ _ _ _ (λ ψ. replaced (form ψ) (tree T φ)) _ _ _
+    then_ruled T _ _ _ _ (λ ψ. replaced (form ψ)) φ _ _ _ (omega (arith, early, c.requires.within))
     (ap (λ u. walk (most T) (made_at (tree T) c.args.known.now) H u c.args.at (outcome.trees T)) means) a
-    (c.from_equation-decided.ensures.is ∙ ap (replaced (form (tree U c.in_ok-x-in-Binary-Eqsub-default-default.x.formula))) same) c.settle-in-Binary-Eqsub-default-default.ensures
+    c.from_equation-decided.ensures.is c.settle-in-Binary-Eqsub-default-default.ensures
 
 pub returns-in_ok-x-in-Binary-Inst-default-default-clause-answers : goal.returns-in_ok-x-in-Binary-Inst-default-default-clause-answers
 returns-in_ok-x-in-Binary-Inst-default-default-clause-answers t c =
     let T = c.args.terms.now in
     let H = stacked (tree T) c.args.cells.now c.args.depth.now.height in
     let a = c.in_ok-x-in-Binary-Inst-default-default.ensures.answers in
-    let U = c.conclude-in-Binary-Inst-default-default.new.terms in
     let early = c.in-Binary-Inst-default-default.ensures.earlier in
     let φ = c.in-Binary-Inst-default-default.thing in
     let means : tree T c.args.proof ≡ binary trees.inst (tree T c.in-Binary-Inst-default-default.thing) (tree T c.in-Binary-Inst-default-default.p) =
     c.in-Binary-Inst-default-default.ensures.means ∙ ap (λ h. binary (binary_head h) (tree T c.in-Binary-Inst-default-default.thing) (tree T c.in-Binary-Inst-default-default.p)) c.in-Binary-Inst-default-default.field-0-is
     in
-    let same = (stands_later T U a.front φ (omega (arith, early, c.requires.within))).0 in
-    then_settled T _ _ _ _ (λ ψ. instantiated (form ψ) (tree T φ)) _ _ _
+    then_ruled T _ _ _ _ (λ ψ. instantiated (form ψ)) φ _ _ _ (omega (arith, early, c.requires.within))
     (ap (λ u. walk (most T) (made_at (tree T) c.args.known.now) H u c.args.at (outcome.trees T)) means) a
-    (c.from_all-decided.ensures.is ∙ ap (instantiated (form (tree U c.in_ok-x-in-Binary-Inst-default-default.x.formula))) same) c.settle-in-Binary-Inst-default-default.ensures
+    c.from_all-decided.ensures.is c.settle-in-Binary-Inst-default-default.ensures
 
 pub settle-requires-clause-choosable : goal.settle-requires-clause-choosable
 settle-requires-clause-choosable t c =
@@ -97,22 +90,16 @@ returns-in_ok-x-in-Binary-Assume-default-default-clause-answers t c =
     let s = c.args.cells.now in
     let h = c.args.depth.now.height in
     let a = c.in_ok-x-in-Binary-Assume-default-default.ensures.answers in
-    let U = c.conclude-in-Binary-Assume-default-default.new.terms in
     let early = c.in-Binary-Assume-default-default.ensures.earlier in
     let φ = c.in-Binary-Assume-default-default.formula in
     let p = c.in-Binary-Assume-default-default.p in
     let means : tree T c.args.proof ≡ binary trees.assume (tree T φ) (tree T p) =
     c.in-Binary-Assume-default-default.ensures.means ∙ ap (λ h. binary (binary_head h) (tree T φ) (tree T p)) c.in-Binary-Assume-default-default.field-0-is
     in
-    let same = (stands_later T U a.front φ (omega (arith, early, c.requires.within))).0 in
     let there : h < length s = omega (arith, c.requires.deep, ap assumptions means) in
-    let rule : Tree → Option Tree = λ ψ. some (binary (trees.connect syntax.implication) (tree T φ) ψ) in
-    then_settled T _ _ _ _ rule _ _ _
-    (
-    ap (λ u. walk (most T) M (stacked (tree T) s h) u c.args.at (outcome.trees T)) means
-    ∙ ap (λ l. walk (most T) M l (tree T p) c.args.at (outcome.trees T) >>= λ f. settled (most T) f.next f.terms (rule f.formula)) (sym (pushed T s h φ there))
-    )
-    a (ap (λ u. some (binary (trees.connect syntax.implication) u (tree U c.in_ok-x-in-Binary-Assume-default-default.x.formula))) same) c.settle-in-Binary-Assume-default-default.ensures
+    then_ruled T _ _ _ _ (λ ψ f. some (binary (trees.connect syntax.implication) f ψ)) φ _ _ _ (omega (arith, early, c.requires.within))
+    (ap (λ u. walk (most T) M (stacked (tree T) s h) u c.args.at (outcome.trees T)) means ∙ under_assumption T M s h φ (most T) c.args.at (tree T p) (outcome.trees T) there)
+    a refl c.settle-in-Binary-Assume-default-default.ensures
 
 pub returns-in_err-x-in-Binary-Assume-default-default-clause-answers : goal.returns-in_err-x-in-Binary-Assume-default-default-clause-answers
 returns-in_err-x-in-Binary-Assume-default-default-clause-answers t c =
@@ -126,12 +113,8 @@ returns-in_err-x-in-Binary-Assume-default-default-clause-answers t c =
     c.in-Binary-Assume-default-default.ensures.means ∙ ap (λ h. binary (binary_head h) (tree T φ) (tree T p)) c.in-Binary-Assume-default-default.field-0-is
     in
     let there : h < length s = omega (arith, c.requires.deep, ap assumptions means) in
-    let rule : Tree → Option Tree = λ ψ. some (binary (trees.connect syntax.implication) (tree T φ) ψ) in
-    then_refused T _ _ _ (λ f. settled (most T) f.next f.terms (rule f.formula)) _ _
-    (
-    ap (λ u. walk (most T) M (stacked (tree T) s h) u c.args.at (outcome.trees T)) means
-    ∙ ap (λ l. walk (most T) M l (tree T p) c.args.at (outcome.trees T) >>= λ f. settled (most T) f.next f.terms (rule f.formula)) (sym (pushed T s h φ there))
-    )
+    then_refused T _ _ _ (λ f. settled (most T) f.next f.terms (some (binary (trees.connect syntax.implication) (tree T φ) f.formula))) _ _
+    (ap (λ u. walk (most T) M (stacked (tree T) s h) u c.args.at (outcome.trees T)) means ∙ under_assumption T M s h φ (most T) c.args.at (tree T p) (outcome.trees T) there)
     c.in_err-x-in-Binary-Assume-default-default.ensures.answers c.from_residual-in_err-x-in-Binary-Assume-default-default.ensures.1
 
 pub settle-requires-in-Binary-FromBoth-default-default-clause-fits : goal.settle-requires-in-Binary-FromBoth-default-default-clause-fits
@@ -198,12 +181,11 @@ returns-in_ok-y-in-Binary-FromBoth-default-default-clause-answers t c =
     let means : tree T c.args.proof ≡ binary (trees.from_both r) (tree T p) (tree T q) =
     c.in-Binary-FromBoth-default-default.ensures.means ∙ ap (λ h. binary (binary_head h) (tree T p) (tree T q)) c.in-Binary-FromBoth-default-default.field-0-is
     in
-    let later = (stands_later T U a.answers.front q (omega (arith, early, c.requires.within))).0 in
     let first = (stands_later U V b.answers.front x.formula a.answers.within).0 in
     let rule : Tree → Option Tree = λ ψ. from_two r (tree U x.formula) ψ in
     then_walked T U _ _ _ _ (λ f. walk (most T) M (stacked (tree T) s h) (tree T q) f.next f.terms >>= λ g. settled (most T) g.next g.terms (from_two r f.formula g.formula)) x _
     (ap (λ u. walk (most T) M (stacked (tree T) s h) u c.args.at (outcome.trees T)) means) a.answers
-    (second_alike rule x.next (outcome.trees U) (most U) (most T) (made_at (tree U) c.args.known.now) M _ _ (tree U q) (tree T q) (most_same T U a.answers.same_room) (made_later c.args.known.now s h T U a.answers.front c.requires.handed) (stacked_again c.args.known.now s c.conclude-in-Binary-FromBoth-default-default.new.cells h _ a.height a.stack T U a.answers.front c.requires.handed) later)
+    (second_again c.args.known.now s c.conclude-in-Binary-FromBoth-default-default.new.cells h _ a.height a.stack T U a.answers.front c.requires.handed a.answers.same_room rule x.next q (outcome.trees U) (omega (arith, early, c.requires.within)))
     (then_settled U V _ _ _ rule y _ _ refl b.answers (c.from_two-decided.ensures.is ∙ ap (λ φ. from_two r φ (tree V y.formula)) first) c.settle-in-Binary-FromBoth-default-default.ensures)
 
 pub returns-in_err-y-in-Binary-FromBoth-default-default-clause-answers : goal.returns-in_err-y-in-Binary-FromBoth-default-default-clause-answers
@@ -223,9 +205,8 @@ returns-in_err-y-in-Binary-FromBoth-default-default-clause-answers t c =
     let means : tree T c.args.proof ≡ binary (trees.from_both r) (tree T p) (tree T q) =
     c.in-Binary-FromBoth-default-default.ensures.means ∙ ap (λ h. binary (binary_head h) (tree T p) (tree T q)) c.in-Binary-FromBoth-default-default.field-0-is
     in
-    let later = (stands_later T U a.answers.front q (omega (arith, early, c.requires.within))).0 in
     let rule : Tree → Option Tree = λ ψ. from_two r (tree U x.formula) ψ in
     then_walked T U _ _ _ _ (λ f. walk (most T) M (stacked (tree T) s h) (tree T q) f.next f.terms >>= λ g. settled (most T) g.next g.terms (from_two r f.formula g.formula)) x _
     (ap (λ u. walk (most T) M (stacked (tree T) s h) u c.args.at (outcome.trees T)) means) a.answers
-    (second_alike rule x.next (outcome.trees U) (most U) (most T) (made_at (tree U) c.args.known.now) M _ _ (tree U q) (tree T q) (most_same T U a.answers.same_room) (made_later c.args.known.now s h T U a.answers.front c.requires.handed) (stacked_again c.args.known.now s c.conclude-in-Binary-FromBoth-default-default.new.cells h _ a.height a.stack T U a.answers.front c.requires.handed) later)
+    (second_again c.args.known.now s c.conclude-in-Binary-FromBoth-default-default.new.cells h _ a.height a.stack T U a.answers.front c.requires.handed a.answers.same_room rule x.next q (outcome.trees U) (omega (arith, early, c.requires.within)))
     (then_refused U V _ _ (λ g. settled (most U) g.next g.terms (rule g.formula)) _ _ refl c.in_err-y-in-Binary-FromBoth-default-default.ensures.answers c.from_residual-in_err-y-in-Binary-FromBoth-default-default.ensures.1)
