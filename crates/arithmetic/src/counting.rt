@@ -23,7 +23,9 @@ impl Arithmetic for Counts {
     }
 
     fn sum(a: i64, b: i64) -> Option<i64> {
-        (Self::admits(a) && Self::admits(b)).then(|| (a + b) % 65_536)
+        a.checked_add(b)
+            .filter(|_| Self::admits(a) && Self::admits(b))
+            .map(|c| c % 65_536)
     }
 
     fn at_most(a: i64, b: i64) -> bool {

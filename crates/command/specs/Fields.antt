@@ -1,5 +1,5 @@
 -- The parts of a text line: words and numbers, a blank or the line's end after each.
-use Rattle.std.specs.Prelude.{◌≡◌, ℕ, Bool, List, [], ◌∷◌, ◌++◌, Some, None, Option, ◌≢◌}
+use Rattle.std.specs.Prelude.{◌≡◌, ℕ, ◌≤◌, ◌⊎◌, Bool, List, [], ◌∷◌, ◌++◌, Some, None, Option, ◌≢◌}
 use Rattle.std.specs.Borrow.{Bor}
 use Rattle.command.specs.declared.head.Head.{Head}
 use Rattle.command.specs.Heads.{word}
@@ -14,6 +14,24 @@ Parted (b ∷ bs) = b ≡ 32
 -- no blank stands in it
 abbrev pub Unblank : List ℕ → Type 0
 Unblank = Without 32
+
+-- a small letter comes first
+abbrev pub LetterFirst : List ℕ → Type 0
+LetterFirst [] = ⊥
+LetterFirst (b ∷ bs) = (97 ≤ b) × (b ≤ 122)
+
+-- a word: it begins with a letter, and no blank stands in it
+abbrev pub Lettered : List ℕ → Type 0
+Lettered s = LetterFirst s × Unblank s
+
+-- a digit or a minus comes first
+abbrev pub DigitFirst : List ℕ → Type 0
+DigitFirst [] = ⊥
+DigitFirst (b ∷ bs) = ((48 ≤ b) × (b ≤ 57)) ⊎ (b ≡ 45)
+
+-- a number: it begins with a digit or a minus, and no blank stands in it
+abbrev pub Numeric : List ℕ → Type 0
+Numeric s = DigitFirst s × Unblank s
 
 -- what stands before the first blank, and the rest
 abbrev pub Parts : List ℕ → List ℕ → List ℕ → Type 0

@@ -7,7 +7,7 @@ use Rattle.std.proofs.lemmas.Bool.{eqb-true, eqb-false}
 use Rattle.command.specs.declared.head.Head.{Head}
 use Rattle.command.specs.Heads.{word, worded}
 use Rattle.command.specs.Fields.{Parted, Unblank, Parts, Field, Begins}
-use Rattle.command.specs.WithoutLemmas.{word_without}
+use Rattle.command.specs.FirstBytes.{word_lettered}
 use Rattle.command.specs.Words.{worded_names}
 
 -- how many bytes stand before the first blank
@@ -46,7 +46,7 @@ split_same (b ∷ u) (c ∷ v) x y hu hv px py e =
     (let t = s.0 in cc, s.1)
 
 pub word_unblank : (h : Head) → Unblank (word h)
-word_unblank = word_without 32 refl
+word_unblank h = (word_lettered h).1
 
 -- ---- the first part is read, and what stands after it
 

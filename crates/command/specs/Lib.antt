@@ -6,6 +6,7 @@ pub mod Reads
 pub mod Columns
 pub mod TextLines
 pub mod Fields
+pub mod FirstBytes
 pub mod FieldsLemmas
 pub mod Words
 pub mod Operands

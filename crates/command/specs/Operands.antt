@@ -8,20 +8,20 @@ use Rattle.std.specs.Borrow.{Bor}
 use Rattle.std.specs.Fmt.{signed_decimal}
 use Rattle.command.specs.declared.command.Command.{Command}
 use Rattle.command.specs.declared.head.Uses.{Uses}
-use Rattle.command.specs.Fields.{Parted, Unblank, Optional}
+use Rattle.command.specs.Fields.{Parted, Numeric, Optional}
 use Rattle.command.specs.Written.{NumberFits, LiteralFits, Suits, field, text_operands}
-use Rattle.command.specs.WithoutLemmas.{unblank_natural, unblank_signed}
+use Rattle.command.specs.FirstBytes.{numeric_natural, numeric_signed}
 use Rattle.command.specs.FieldsLemmas.{split_same}
 
 -- a way of writing values that does not mix them up
 pub record Writing {X : Type 0} (write : X → List ℕ) (Fits : Bool → X → Type 0) : Type 0 where
-  pub unblank : (x : X) → Fits true x → Unblank (write x)
+  pub numeric : (x : X) → Fits true x → Numeric (write x)
   pub apart : (x y : X) → Fits true x → Fits true y → write x ≡ write y → x ≡ y
   pub unused : (x y : X) → Fits false x → Fits false y → x ≡ y
 
 pub numbers_writing : Writing decimal NumberFits
 numbers_writing = record {
-  unblank = unblank_natural;
+  numeric = numeric_natural;
   apart = λ x y fx fy e. decimal_injective x y (omega arith) (omega arith) e;
   unused = λ x y fx fy. omega arith;
 }
@@ -37,7 +37,7 @@ literal_unused (negsuc m) z f g = absurd (omega arith)
 
 pub literals_writing : Writing signed_decimal LiteralFits
 literals_writing = record {
-  unblank = unblank_signed;
+  numeric = numeric_signed;
   apart = λ y z fy fz e. signed_decimal_injective y z (literal_small y fy) (literal_small z fz) e;
   unused = literal_unused;
 }
@@ -52,7 +52,7 @@ module _ {X : Type 0} (write : X → List ℕ) (Fits : Bool → X → Type 0) (w
       (used : Bool) (x y : X) (rest more : List ℕ) → Fits used x → Fits used y → Parted rest → Parted more
       → field write used x ++ rest ≡ field write used y ++ more → (x ≡ y) × (rest ≡ more)
   field_same true x y rest more fx fy pr pm e =
-      let s = split_same (write x) (write y) rest more (w.unblank x fx) (w.unblank y fy) pr pm (ap (drop 1) e) in
+      let s = split_same (write x) (write y) rest more (w.numeric x fx).1 (w.numeric y fy).1 pr pm (ap (drop 1) e) in
       (w.apart x y fx fy s.0, s.1)
   field_same false x y rest more fx fy pr pm e = (w.unused x y fx fy, e)
 

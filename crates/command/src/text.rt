@@ -1,7 +1,7 @@
 // The text form: a head's word and its operands, single blanks between.
-ghost use Rattle.std.specs.Prelude.{◌≡◌, ◌≤◌, ◌==◌, length, true};
+ghost use Rattle.std.specs.Prelude.{◌≡◌, ◌≤◌, ◌==◌, length, true, Decides};
 ghost use Rattle.std.specs.List.{position_or_len};
-ghost use Rattle.command.specs.Fields.{Parted, Parts, Field, Optional, Begins};
+ghost use Rattle.command.specs.Fields.{LetterFirst, Parted, Parts, Field, Optional, Begins};
 ghost use Rattle.command.specs.Meaning.{Writes};
 ghost use Rattle.command.specs.Reads.{Reads};
 ghost use Rattle.command.specs.Written.{Suits, text_operands, text_line};
@@ -24,10 +24,20 @@ fn parted(line: &[u8]) -> (&[u8], &[u8])
     line.split_at(before_blank(line))
 }
 
-// The head whose word the line begins with, and the rest.
+fn begins_with_letter(line: &[u8]) -> bool
+    ensures { Decides result (LetterFirst line.now) }
+{
+    matches!(line.first(), Some(b'a'..=b'z'))
+}
+
+// The head whose word the line begins with, and the rest. The words are gone through only where one may stand: an empty line and
+// one that begins with a blank or a digit, as a ledger's does, are many.
 fn head_of(line: &[u8]) -> Option<(Head, &[u8])>
     ensures { Begins line.now result }
 {
+    if !begins_with_letter(line) {
+        return None;
+    }
     let (word, rest) = parted(line);
     let head = Head::from_word(word)?;
     Some((head, rest))

@@ -54,7 +54,7 @@ stopped_or_passed (done x) f r at h = inr (x, refl, h)
 stopped_or_passed {X} {Y} (refused n p) f r at h = inl (ap (refused_as {Y = X} (refused n p)) h)
 
 -- a test that does not refuse so was passed
-past : {X Y : Type 0} (m : Outcome X) (f : X → Outcome Y) (r : Refusal) (at : ℕ) → (m ≡ refused r at → ⊥) → (m >>= f) ≡ refused r at → (x : X) × (m ≡ done x) × (f x ≡ refused r at)
+pub past : {X Y : Type 0} (m : Outcome X) (f : X → Outcome Y) (r : Refusal) (at : ℕ) → (m ≡ refused r at → ⊥) → (m >>= f) ≡ refused r at → (x : X) × (m ≡ done x) × (f x ≡ refused r at)
 past m f r at not_so h = elim (stopped_or_passed m f r at h) [ inl e ↦ absurd (not_so e) | inr p ↦ p ]
 
 pub need_refused : {X : Type 0} (n r : Refusal) (at : ℕ) (o : Option X) → need n o ≡ refused r at → (o ≡ none) × (n ≡ r) × (0 ≡ at)

@@ -210,11 +210,11 @@ module _ (A : Arithmetic) (law : Lawful A) (L : Limits) (R : Room) where
     literals = λ k t h. nothing_of t (sym (none_named the_tree k) ∙ h);
   }
 
-  good_after : (cs : List Command) → Good (after A L R fresh cs)
-  good_after cs = holds_after A L R Good good_step cs fresh good_fresh
+  good_after : (cs : List Command) (S : State) → Good S → Good (after A L R S cs)
+  good_after = holds_after A L R Good good_step
 
 pub always_sound : Always Sound
-always_sound A law L R cs = (good_after A law L R cs).sound
+always_sound A law L R cs = (good_after A law L R cs fresh (good_fresh A law L R)).sound
 
 pub that_known_formulas_hold : KnownFormulasHold
 that_known_formulas_hold A law L R cs = (always_sound A law L R cs).known_hold

@@ -1,9 +1,9 @@
 -- What is read off two bounds is what the fact of their sum states.
-use Rattle.std.proofs.Common.{◌≡◌, Bool, true, false, cond, ◌&&◌, ℤ, Some, None, Option, sym, refl, ap, ◌∙◌, subst, ap₂, inl, inr}
+use Rattle.std.proofs.Common.{◌≡◌, Bool, true, false, cond, ◌&&◌, ℤ, Some, None, Option, sym, refl, ap, ◌∙◌, subst, ap₂, arith, inl, inr}
 use Rattle.std.proofs.lemmas.Bool.{cases_Bool, and_parts, cond-true, cond-false}
 use Rattle.logic.specs.Syntax.{Number, Formula, lit, add, minus, measure, equal, at_most, implies, leq, same}
 use Rattle.logic.specs.Syntax as syntax
-use Rattle.logic.specs.Tree.{Tree, Unary, leaf, unary, binary, number_tree, formula_tree, literals_pass}
+use Rattle.logic.specs.Tree.{Tree, Unary, leaf, unary, binary, number_tree, formula_tree, foralls, literals_pass}
 use Rattle.logic.specs.Terms.{of_number}
 use Rattle.logic.specs.Arithmetic.{Arithmetic}
 use Rattle.logic.specs.Facts.{Stated, misshapen, unadmitted, formula, of_literal, state, pair, first, second, lower, upper, are_bounds}
@@ -17,6 +17,7 @@ use Rattle.rules.specs.Refusals.{refusal}
 use Rattle.rules.specs.Shapes.{Added, Bounded, bound, no_bound, bounded, adds, refuses, is_minus, adds_admitted, adds_bounds, added}
 use Rattle.rules.specs.Stating.{pair_tree}
 use Rattle.rules.proofs.Literals.{sum_admitted, sum_unadmitted}
+use Rattle.rules.proofs.TypedLimits.{number_foralls}
 
 same_reason : (d e : Reason) → refuses d ≡ refuses e → d ≡ e
 same_reason d e h = cc
@@ -84,6 +85,10 @@ module _ (A : Arithmetic) where
   bounds_state a b c m n carries =
       cond-true A.carries _ _ carries
       ∙ cond-true (are_bounds (leq (add a b) (lit m)) (leq (add (minus a) c) (lit n)) m n) _ _ (ap₂ ◌&&◌ (same_refl (leq (add a b) (lit m))) (same_refl (leq (add (minus a) c) (lit n))))
+
+  -- it has no `forall`
+  sum_flat : (a b c : Number) (m n : ℤ) → foralls (formula_tree (sum_formula a b c m n)) ≡ 0
+  sum_flat a b c m n = omega (arith, number_foralls a, number_foralls b, number_foralls c)
 
   -- two bounds that fit are not refused as unfounded
   fitting : (a b c : Number) (m n : ℤ) → adds_bounds A (bounded (formula_tree (leq (add a b) (lit m)))) (bounded (formula_tree (leq (add (minus a) c) (lit n)))) ≡ adds_admitted (number_tree b) (number_tree c) (literal_sum A m n)
@@ -153,6 +158,7 @@ module _ (A : Arithmetic) where
       record StatesSum (b c : Tree) (k : ℤ) : Type 0 where
         pub sum_states : Formula
         pub stated_as : state A (pair φ ψ) ≡ formula sum_states
+        pub flat : foralls (formula_tree sum_states) ≡ 0
         pub tree_is : formula_tree sum_states ≡ pair_tree (formula_tree φ) (formula_tree ψ) b c k
 
       admitted_states : (a b z c : Tree) (m n k : ℤ) → Fit a b z c m n → Some k ≡ literal_sum A m n → StatesSum b c k
@@ -161,6 +167,7 @@ module _ (A : Arithmetic) where
           record {
             sum_states = sum_formula f.summand f.left f.right m n;
             stated_as = fit_state a b z c m n f ∙ cond-true _ _ _ s.0;
+            flat = sum_flat f.summand f.left f.right m n;
             tree_is =
                 ap₂ (λ p q. pair_tree (formula_tree p) (formula_tree q) (number_tree f.left) (number_tree f.right) (A.sum m n)) (sym f.premise_is) (sym f.other_is)
                 ∙ ap₂ (λ p q. pair_tree (formula_tree φ) (formula_tree ψ) p q (A.sum m n)) f.left_is f.right_is ∙ ap (pair_tree (formula_tree φ) (formula_tree ψ) b c) (sym s.1);
@@ -221,10 +228,10 @@ module _ (A : Arithmetic) (φ ψ : Formula) {s t : Tree} (e : s ≡ formula_tree
     ]
 
     -- and a sum the formula that it states
-    pub pair_states : (b c : Tree) (k : ℤ) → adds b c k ≡ added A (bounded s) (bounded t) → (χ : Formula) × (state A (pair φ ψ) ≡ formula χ) × (formula_tree χ ≡ pair_tree (formula_tree φ) (formula_tree ψ) b c k)
+    pub pair_states : (b c : Tree) (k : ℤ) → adds b c k ≡ added A (bounded s) (bounded t) → (χ : Formula) × (state A (pair φ ψ) ≡ formula χ) × (foralls (formula_tree χ) ≡ 0) × (formula_tree χ ≡ pair_tree (formula_tree φ) (formula_tree ψ) b c k)
     pair_states b c k h = elim (cases_Bool A.carries) [
       | inl y ↦
           let z = states_carried A φ ψ y pass pass' (bounded (formula_tree φ)) (bounded (formula_tree ψ)) refl refl b c k (sym (read h ∙ cond-true A.carries _ _ y)) in
-          (z.sum_states, z.stated_as, z.tree_is)
+          (z.sum_states, z.stated_as, z.flat, z.tree_is)
       | inr y ↦ absurd (cc (read h ∙ cond-false A.carries (adds_bounds A (bounded (formula_tree φ)) (bounded (formula_tree ψ))) (refuses Reason.Uncarried) y))
     ]

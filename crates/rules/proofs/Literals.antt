@@ -3,7 +3,7 @@ use Rattle.std.proofs.Common.{◌≡◌, Bool, true, false, cond, ℤ, Some, Non
 use Rattle.std.proofs.lemmas.Bool.{cases_Bool}
 use Rattle.std.proofs.lemmas.Option.{none-some, same_Some}
 use Rattle.logic.specs.Syntax.{Number, lit, add, minus, measure, eq_numbers, leq, neg}
-use Rattle.logic.specs.Tree.{Tree, number_tree, literals_pass}
+use Rattle.logic.specs.Tree.{Tree, leaf, unary, binary, number_tree, size, literals_pass}
 use Rattle.logic.specs.Arithmetic.{Arithmetic}
 use Rattle.logic.specs.Facts.{Stated, misshapen, unadmitted, formula, of_literal, state, sum, atmost}
 use Rattle.model.specs.Refusal.{refused}
@@ -24,6 +24,33 @@ no_literal (lit m) f h = absurd cc
 no_literal (add a b) f h = refl
 no_literal (minus a) f h = refl
 no_literal (measure s l) f h = refl
+
+pub literal_small : (t : Tree) (n : ℤ) → literal t ≡ Some n → size t ≡ 1
+literal_small (leaf x) n h = refl
+literal_small (unary u t) n h = absurd cc
+literal_small (binary u s t) n h = absurd cc
+
+-- ---- what is summed and what is compared is small
+
+module _ (A : Arithmetic) (s t : Tree) where
+  abbrev BothSmall : Type 0
+  BothSmall = (size s ≡ 1) × (size t ≡ 1)
+
+  total_small_by : (o u : Option ℤ) → literal s ≡ o → literal t ≡ u → (i : ℤ) → Ok i ≡ total A o u → BothSmall
+  total_small_by None u h k i a = absurd cc
+  total_small_by (Some m) None h k i a = absurd cc
+  total_small_by (Some m) (Some n) h k i a = (literal_small s m h, literal_small t n k)
+
+  pub total_small : (i : ℤ) → Ok i ≡ total A (literal s) (literal t) → (size s ≡ 1) × (size t ≡ 1)
+  total_small i a = total_small_by (literal s) (literal t) refl refl i a
+
+  compared_small_by : (o u : Option ℤ) → literal s ≡ o → literal t ≡ u → (b : Bool) → Ok b ≡ compared A o u → BothSmall
+  compared_small_by None u h k b a = absurd cc
+  compared_small_by (Some m) None h k b a = absurd cc
+  compared_small_by (Some m) (Some n) h k b a = (literal_small s m h, literal_small t n k)
+
+  pub compared_small : (b : Bool) → Ok b ≡ compared A (literal s) (literal t) → (size s ≡ 1) × (size t ≡ 1)
+  compared_small b a = compared_small_by (literal s) (literal t) refl refl b a
 
 -- ---- the sum of two admitted literals
 

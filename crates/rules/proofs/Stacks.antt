@@ -1,13 +1,9 @@
 -- Reading a hypothesis, putting one on the stack, and a table that grows.
-use Rattle.std.proofs.Common.{◌≡◌, ℕ, zero, suc, ◌-◌, ◌<◌, ◌≤◌, List, ◌∷◌, length, get_or, set, refl, ap, ◌∙◌, ap₂, arith, inl, inr, reverse, get_or-set_other, get_or-set_same}
-use Rattle.std.proofs.lemmas.List.{get_or-reverse, length-reverse}
-use Rattle.std.proofs.lemmas.Option.{slice_get-get_or, slice_get_cases}
-use Rattle.std.specs.List.{slice_get}
-use Rattle.std.specs.declared.option.Option as std
+use Rattle.std.proofs.Common.{◌≡◌, ℕ, zero, suc, ◌-◌, ◌<◌, ◌≤◌, List, ◌∷◌, length, get_or, set, refl, ap, ◌∙◌, ap₂, arith, get_or-set_other, get_or-set_same}
 use mathlib.Core.Option.{none, some}
 use lib.ListN.{get_elem?}
 use Rattle.logic.specs.Tree.{Tree}
-use Rattle.rules.specs.Stack.{stacked, named}
+use Rattle.rules.specs.Stack.{stacked}
 
 pub hypothesis_at : (f : ℕ → Tree) (s : List ℕ) (h k : ℕ) → k < h → some (f (get_or s (h - 1 - k) 0)) ≡ get_elem? (stacked f s h) k
 hypothesis_at f s zero k l = absurd (omega (arith, l))
@@ -20,16 +16,6 @@ pub no_hypothesis : (f : ℕ → Tree) (s : List ℕ) (h k : ℕ) → h ≤ k �
 no_hypothesis f s zero k l = refl
 no_hypothesis f s (suc h) zero l = absurd (omega (arith, l))
 no_hypothesis f s (suc h) (suc k) l = no_hypothesis f s h k (omega (arith, l))
-
--- the cells from the last on are the hypotheses
-pub hypothesis_from_last : (f : ℕ → Tree) (s : List ℕ) (k : ℕ) (o : std.Option ℕ) → o ≡ slice_get (reverse s) k → named f o ≡ get_elem? (stacked f s (length s)) k
-hypothesis_from_last f s k o e =
-    elim (slice_get_cases (reverse s) k).1 [
-      | inl (x, l, at, read) ↦
-          let m : k < length s = omega (arith, l, length-reverse s) in
-          ap (named f) (e ∙ slice_get-get_or (reverse s) k 0 l) ∙ ap (λ c. some (f c)) (get_or-reverse s k 0 m) ∙ hypothesis_at f s (length s) k m
-      | inr (l, past) ↦ ap (named f) (e ∙ past) ∙ no_hypothesis f s (length s) k (omega (arith, l, length-reverse s))
-    ]
 
 -- the same cells below the height, and the same trees at them, give the same hypotheses
 pub stacked_alike : (f g : ℕ → Tree) (s r : List ℕ) (h : ℕ) → ((j : ℕ) → j < h → f (get_or s j 0) ≡ g (get_or r j 0)) → stacked f s h ≡ stacked g r h

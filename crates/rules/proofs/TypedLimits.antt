@@ -1,9 +1,10 @@
--- A formula is within the limits exactly if its size and its nesting are: it assumes nothing, and its head has no index.
+-- A formula is within the limits exactly if its size and its nesting are: it assumes nothing, and its head has no index. A number term has no `forall`.
 use Rattle.std.proofs.Common.{◌≡◌, max, true, ◌&&◌, leb, List, [], ◌∷◌, map, sym, refl, ◌∙◌, ap₂, arith}
 use mathlib.Core.Bool.{and-true}
 use Rattle.std.proofs.lemmas.Bool.{le-leb}
 use Rattle.logic.specs.Syntax.{Thing, Things, Number, Formula, equal, at_most, var, apply, nil, cons, lit, add, minus, measure, falsity, connect, neg, eq_things, relate, atom, forall}
-use Rattle.logic.specs.Tree.{thing_tree, things_tree, number_tree, formula_tree, assumptions}
+use Rattle.logic.specs.Tree.{thing_tree, things_tree, number_tree, formula_tree, assumptions, foralls}
+use Rattle.logic.proofs.Trees.{thing_foralls}
 use Rattle.model.specs.Limits.{limits, own_index_within, within}
 use Rattle.model.specs.Tests.{each}
 use Rattle.model.specs.Session.{each_within}
@@ -23,6 +24,12 @@ number_assumes_nothing (lit n) = refl
 number_assumes_nothing (add a b) = ap₂ max (number_assumes_nothing a) (number_assumes_nothing b)
 number_assumes_nothing (minus a) = number_assumes_nothing a
 number_assumes_nothing (measure s l) = things_assume_nothing l
+
+pub number_foralls : (a : Number) → foralls (number_tree a) ≡ 0
+number_foralls (lit n) = refl
+number_foralls (add a b) = ap₂ max (number_foralls a) (number_foralls b)
+number_foralls (minus a) = number_foralls a
+number_foralls (measure s l) = thing_foralls (apply s l)
 
 formula_assumes_nothing : (φ : Formula) → assumptions (formula_tree φ) ≡ 0
 formula_assumes_nothing falsity = refl

@@ -196,13 +196,23 @@ impl<L: Draft, R: Draft> Draft for Two<L, R> {
     }
 }
 
-// Keeps a draft: refused where it is over a limit, and where there is no room for it.
-pub(crate) fn state<D: Draft>(terms: &mut Terms, draft: D) -> Result<u32, Reason>
+// Keeps a draft that is not too large: refused where there is no room for it.
+pub(crate) fn keep_small<D: Draft>(terms: &mut Terms, draft: D) -> Result<u32, Reason>
     requires operands { D.within (count terms.old) (tree terms.old) draft }
+    requires small { size (D.drawn (tree terms.old) draft) ≤ largest }
     ensures { Stated terms.old terms.new (D.drawn (tree terms.old) draft) result }
 {
-    if !draft.fits(terms) {
+    Ok(draft.keep(terms)?)
+}
+
+// Keeps a draft of this size, as the fact that states it has counted it: refused where it is too large, and where there is no room for it.
+pub(crate) fn state<D: Draft>(terms: &mut Terms, draft: D, counted: u32) -> Result<u32, Reason>
+    requires operands { D.within (count terms.old) (tree terms.old) draft }
+    requires counted { counted ≡ min (size (D.drawn (tree terms.old) draft)) (2 ^ 32 - 1) }
+    ensures { Stated terms.old terms.new (D.drawn (tree terms.old) draft) result }
+{
+    if counted > LARGEST {
         return Err(Reason::Oversized);
     }
-    Ok(draft.keep(terms)?)
+    keep_small(terms, draft)
 }

@@ -7,7 +7,7 @@ ghost use Rattle.logic.specs.Tree.{number_tree, formula_tree, literals_pass};
 ghost use Rattle.terms.specs.Outcome.{count, tree};
 ghost use Rattle.rules.specs.Answering.{Answered};
 
-use crate::draft::{IMPLIES, Kept, One, Two, Zero, state};
+use crate::draft::{Draft, IMPLIES, Kept, One, Two, Zero, keep_small, state};
 use crate::refusal::Reason;
 use crate::shapes::{added, compared, total};
 use arithmetic::Arithmetic;
@@ -23,7 +23,9 @@ pub fn cancel(terms: &mut Terms, a: u32) -> Result<u32, Reason>
 {
     let minus = One(Unary::Minus, Kept(a));
     let sum = Two(Binary::Add, Kept(a), minus);
-    state(terms, Two(Binary::Eq, sum, Zero(Leaf::Lit(0))))
+    let cancelled = Two(Binary::Eq, sum, Zero(Leaf::Lit(0)));
+    let counted = cancelled.size(terms);
+    state(terms, cancelled, counted)
 }
 
 // a + b = b + a
@@ -34,7 +36,9 @@ pub fn swap(terms: &mut Terms, a: u32, b: u32) -> Result<u32, Reason>
 {
     let sum = Two(Binary::Add, Kept(a), Kept(b));
     let swapped = Two(Binary::Add, Kept(b), Kept(a));
-    state(terms, Two(Binary::Eq, sum, swapped))
+    let equation = Two(Binary::Eq, sum, swapped);
+    let counted = equation.size(terms);
+    state(terms, equation, counted)
 }
 
 // a = b → a ≤ b
@@ -45,7 +49,9 @@ pub fn eqleq(terms: &mut Terms, a: u32, b: u32) -> Result<u32, Reason>
 {
     let equal = Two(Binary::Eq, Kept(a), Kept(b));
     let at_most = Two(Binary::Leq, Kept(a), Kept(b));
-    state(terms, Two(IMPLIES, equal, at_most))
+    let formula = Two(IMPLIES, equal, at_most);
+    let counted = formula.size(terms);
+    state(terms, formula, counted)
 }
 
 // a ≤ b → b ≤ c → a ≤ c
@@ -58,7 +64,9 @@ pub fn leqtrans(terms: &mut Terms, a: u32, b: u32, c: u32) -> Result<u32, Reason
     let first = Two(Binary::Leq, Kept(a), Kept(b));
     let second = Two(Binary::Leq, Kept(b), Kept(c));
     let both = Two(Binary::Leq, Kept(a), Kept(c));
-    state(terms, Two(IMPLIES, first, Two(IMPLIES, second, both)))
+    let chain = Two(IMPLIES, first, Two(IMPLIES, second, both));
+    let counted = chain.size(terms);
+    state(terms, chain, counted)
 }
 
 // a + b = n, of literals
@@ -69,7 +77,7 @@ pub fn sum<A: Arithmetic>(terms: &mut Terms, a: u32, b: u32) -> Result<u32, Reas
 {
     let n = total::<A>(terms, a, b)?;
     let both = Two(Binary::Add, Kept(a), Kept(b));
-    state(terms, Two(Binary::Eq, both, Zero(Leaf::Lit(n))))
+    keep_small(terms, Two(Binary::Eq, both, Zero(Leaf::Lit(n))))
 }
 
 // a ≤ b or not a ≤ b, of literals
@@ -80,9 +88,9 @@ pub fn at_most<A: Arithmetic>(terms: &mut Terms, a: u32, b: u32) -> Result<u32, 
 {
     let bound = Two(Binary::Leq, Kept(a), Kept(b));
     if compared::<A>(terms, a, b)? {
-        state(terms, bound)
+        keep_small(terms, bound)
     } else {
-        state(terms, One(Unary::Neg, bound))
+        keep_small(terms, One(Unary::Neg, bound))
     }
 }
 
@@ -96,5 +104,7 @@ pub fn pair<A: Arithmetic>(terms: &mut Terms, premise: u32, other: u32) -> Resul
     let summands = Two(Binary::Add, Kept(sum.first), Kept(sum.second));
     let bound = Two(Binary::Leq, summands, Zero(Leaf::Lit(sum.limit)));
     let rest = Two(IMPLIES, Kept(other), bound);
-    state(terms, Two(IMPLIES, Kept(premise), rest))
+    let added_up = Two(IMPLIES, Kept(premise), rest);
+    let counted = added_up.size(terms);
+    state(terms, added_up, counted)
 }

@@ -26,7 +26,9 @@ impl Drop for Guard<'_> {
 pub fn hypothesis(stack: &[u32], k: u32) -> Option<u32>
     ensures { (f : ℕ → Tree) → named f result ≡ get_elem? (stacked f stack.now (length stack.now)) k }
 {
-    stack.iter().rev().nth(k as usize).copied()
+    // By its place: `nth` would step over all that are newer.
+    let at = stack.len().checked_sub(k as usize + 1)?;
+    Some(stack[at])
 }
 
 // What command k made known, if it did.

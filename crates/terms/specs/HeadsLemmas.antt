@@ -12,7 +12,7 @@ use Rattle.terms.specs.declared.records.Unary as unaries
 use Rattle.terms.specs.declared.records.Binary as binaries
 use Rattle.terms.specs.Heads.{kind_head, connective, one_sided, two_sided, one_premise, two_premises, leaf_head, unary_head, binary_head}
 
-kind_head_injective : (x y : kinds.Kind) → kind_head x ≡ kind_head y → x ≡ y
+pub kind_head_injective : (x y : kinds.Kind) → kind_head x ≡ kind_head y → x ≡ y
 kind_head_injective kinds.TheVariants.Thing kinds.TheVariants.Thing e = cc
 kind_head_injective x kinds.TheVariants.Thing e = cc
 kind_head_injective x y e = cc

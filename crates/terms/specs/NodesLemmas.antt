@@ -36,7 +36,7 @@ same_record_refl r = same_tree_refl _
 pub decides_same : (r s : Record) → Decides (same_record r s) (r ≡ s)
 decides_same r s = (same_record_true r s, λ e. ap (same_record r) (sym e) ∙ same_record_refl r)
 
-same_reflexive : (x : Entry) → same_entry x x ≡ true
+pub same_reflexive : (x : Entry) → same_entry x x ≡ true
 same_reflexive x = same_record_refl x.record
 
 same_symm : (x y : Entry) → same_entry x y ≡ same_entry y x

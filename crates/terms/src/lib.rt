@@ -146,6 +146,8 @@ impl Terms<'_> {
     }
 
     // Where as many are kept as 32 bits count, only what is kept already has an index.
+    // Never inlined: each call of it would copy its entry twice, once for that search.
+    #[inline(never)]
     fn keep(&mut self, entry: Entry) -> Result<u32, Full>
         requires earlier { after entry.record ≤ count self.old }
         requires measures { Measures (node (tree self.old) entry.record) entry }

@@ -1,11 +1,16 @@
 // Substitution on small tables: what is kept, with room for exactly that, and with one record too few.
+ghost use Rattle.std.specs.Prelude.{◌≡◌};
+ghost use Rattle.terms.specs.Outcome.{room};
+
 use super::*;
 use crate::checked::{Unkept, instance, make, make_each};
 use crate::plan_symbols::{PlanSymbol, note};
 use crate::records::BLANK;
 
 // r(v1, v0) under a `forall`, at index 7, and f(v0) at index 3.
-fn relation(terms: &mut Terms) -> Result<(), Unkept> {
+fn relation(terms: &mut Terms) -> Result<(), Unkept>
+    ensures { room terms.new ≡ room terms.old }
+{
     let records = [
         Record::Leaf(Leaf::Nil),
         Record::Leaf(Leaf::Var(0)),

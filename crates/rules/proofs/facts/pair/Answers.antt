@@ -21,5 +21,5 @@ returns g c = λ φ ψ e f p q.
     let r : to_z w64 (of_z w64 s.limit) ≡ s.limit = search rules in
     let stands =
     ap₂ (λ x y. pair_tree x y (tree T s.first) (tree T s.second) (to_z w64 (of_z w64 s.limit))) e f
-    ∙ ap (pair_tree (formula_tree φ) (formula_tree ψ) (tree T s.first) (tree T s.second)) r ∙ sym z.2 in
-    stated_answer M _ (pair φ ψ) z.0 z.1 _ stands _ _ c.state.ensures
+    ∙ ap (pair_tree (formula_tree φ) (formula_tree ψ) (tree T s.first) (tree T s.second)) r ∙ sym z.3 in
+    stated_answer M _ (pair φ ψ) z.0 z.1 z.2 _ stands _ _ c.state.ensures
