@@ -32,25 +32,21 @@ literal_small (binary u s t) n h = absurd cc
 
 -- ---- what is summed and what is compared is small
 
-module _ (A : Arithmetic) (s t : Tree) where
-  abbrev BothSmall : Type 0
-  BothSmall = (size s ≡ 1) × (size t ≡ 1)
+-- two terms of which something is answered that is answered of two literals alone
+module _ {X : Type 0} (R : Option ℤ → Option ℤ → Result X Reason) (left : (u : Option ℤ) (x : X) → Ok x ≡ R None u → ⊥) (right : (m : ℤ) (x : X) → Ok x ≡ R (Some m) None → ⊥) (s t : Tree) where
+  both_small_by : (o u : Option ℤ) → literal s ≡ o → literal t ≡ u → (x : X) → Ok x ≡ R o u → (size s ≡ 1) × (size t ≡ 1)
+  both_small_by None u h k x a = absurd (left u x a)
+  both_small_by (Some m) None h k x a = absurd (right m x a)
+  both_small_by (Some m) (Some n) h k x a = (literal_small s m h, literal_small t n k)
 
-  total_small_by : (o u : Option ℤ) → literal s ≡ o → literal t ≡ u → (i : ℤ) → Ok i ≡ total A o u → BothSmall
-  total_small_by None u h k i a = absurd cc
-  total_small_by (Some m) None h k i a = absurd cc
-  total_small_by (Some m) (Some n) h k i a = (literal_small s m h, literal_small t n k)
+  both_small : (x : X) → Ok x ≡ R (literal s) (literal t) → (size s ≡ 1) × (size t ≡ 1)
+  both_small = both_small_by (literal s) (literal t) refl refl
 
-  pub total_small : (i : ℤ) → Ok i ≡ total A (literal s) (literal t) → (size s ≡ 1) × (size t ≡ 1)
-  total_small i a = total_small_by (literal s) (literal t) refl refl i a
+pub total_small : (A : Arithmetic) (s t : Tree) (i : ℤ) → Ok i ≡ total A (literal s) (literal t) → (size s ≡ 1) × (size t ≡ 1)
+total_small A = both_small (total A) (λ u x e. cc) (λ m x e. cc)
 
-  compared_small_by : (o u : Option ℤ) → literal s ≡ o → literal t ≡ u → (b : Bool) → Ok b ≡ compared A o u → BothSmall
-  compared_small_by None u h k b a = absurd cc
-  compared_small_by (Some m) None h k b a = absurd cc
-  compared_small_by (Some m) (Some n) h k b a = (literal_small s m h, literal_small t n k)
-
-  pub compared_small : (b : Bool) → Ok b ≡ compared A (literal s) (literal t) → (size s ≡ 1) × (size t ≡ 1)
-  compared_small b a = compared_small_by (literal s) (literal t) refl refl b a
+pub compared_small : (A : Arithmetic) (s t : Tree) (b : Bool) → Ok b ≡ compared A (literal s) (literal t) → (size s ≡ 1) × (size t ≡ 1)
+compared_small A = both_small (compared A) (λ u x e. cc) (λ m x e. cc)
 
 -- ---- the sum of two admitted literals
 
